@@ -1,0 +1,161 @@
+-- Kinds, equality of types, conversion, acceptable markings, and refusals 7 and 8 (RULES 4).
+use mathlib.Core.Path.{_≡_}
+use Prim.Native.Nat.{ℕ, zero, suc, _≤_, _<_, min}
+use mathlib.Core.Bool.{Bool, true, false, _&&_}
+use mathlib.Core.List.{List}
+use lib.ListN.{getD, length}
+use lib.Dec.{leb, eqb}
+use Rattle.rules.specs.Basic.{choose, Verdict, guard, firstBad}
+use Rattle.rules.specs.Table.{Expr, Command, Routine, literal, home, cast, null, sum, read, op, skip, seq, store, ifElse, while}
+use Rattle.rules.specs.Shape.{typeOf}
+
+-- A reference's kind; int has none.
+pub data Kind : Type 0 where
+  int SAFE SEQ DYNAMIC : Kind
+
+-- RULES 4.1: a marking's byte.
+abbrev pub kindOf : ℕ → Kind
+kindOf zero = SAFE
+kindOf (suc zero) = SEQ
+kindOf (suc (suc k)) = DYNAMIC
+
+-- Type 0 is int, and type t + 1 has the marking's byte t.
+abbrev pub kind : List ℕ → ℕ → Kind
+kind m zero = int
+kind m (suc t) = kindOf (getD m t 0)
+
+-- ---- equality (RULES 4.4)
+
+abbrev pub sameKind : Kind → Kind → Bool
+sameKind int int = true
+sameKind int SAFE = false
+sameKind int SEQ = false
+sameKind int DYNAMIC = false
+sameKind SAFE int = false
+sameKind SAFE SAFE = true
+sameKind SAFE SEQ = false
+sameKind SAFE DYNAMIC = false
+sameKind SEQ int = false
+sameKind SEQ SAFE = false
+sameKind SEQ SEQ = true
+sameKind SEQ DYNAMIC = false
+sameKind DYNAMIC int = false
+sameKind DYNAMIC SAFE = false
+sameKind DYNAMIC SEQ = false
+sameKind DYNAMIC DYNAMIC = true
+
+-- Are the targets compared too? Not those of int or DYNAMIC.
+abbrev pub deep : Kind → Bool
+deep int = false
+deep SAFE = true
+deep SEQ = true
+deep DYNAMIC = false
+
+-- Types t and u are equal, down d targets.
+abbrev pub sameBelow : Routine → List ℕ → ℕ → ℕ → ℕ → Bool
+sameBelow r m zero t u = eqb t u
+sameBelow r m (suc d) t u =
+    sameKind (kind m t) (kind m u)
+    && choose (deep (kind m t)) (λ _. sameBelow r m d (r .target t) (r .target u)) (λ _. true)
+
+-- Targets fall, so that as many steps as there are types reach int.
+unfoldable pub same : Routine → List ℕ → ℕ → ℕ → Bool
+same r m t u = sameBelow r m (suc (r .types)) t u
+
+-- ---- conversion (RULES 4.3)
+
+-- The kinds: anything to int; int to what is not SAFE; equal kinds; SEQ to SAFE.
+abbrev pub kindConverts : Kind → Kind → Bool
+kindConverts int int = true
+kindConverts int SAFE = false
+kindConverts int SEQ = true
+kindConverts int DYNAMIC = true
+kindConverts SAFE int = true
+kindConverts SAFE SAFE = true
+kindConverts SAFE SEQ = false
+kindConverts SAFE DYNAMIC = false
+kindConverts SEQ int = true
+kindConverts SEQ SAFE = true
+kindConverts SEQ SEQ = true
+kindConverts SEQ DYNAMIC = false
+kindConverts DYNAMIC int = true
+kindConverts DYNAMIC SAFE = false
+kindConverts DYNAMIC SEQ = false
+kindConverts DYNAMIC DYNAMIC = true
+
+-- Reference to reference asks equal targets, unless both are DYNAMIC.
+abbrev pub targetsMatter : Kind → Kind → Bool
+targetsMatter int b = false
+targetsMatter SAFE b = deep b
+targetsMatter SEQ b = deep b
+targetsMatter DYNAMIC b = deep b
+
+unfoldable pub converts : Routine → List ℕ → ℕ → ℕ → Bool
+converts r m from to =
+    kindConverts (kind m from) (kind m to)
+    && choose (targetsMatter (kind m from) (kind m to)) (λ _. same r m (r .target from) (r .target to)) (λ _. true)
+
+-- ---- acceptable (RULES 4.2)
+
+abbrev pub isDynamic : Kind → Bool
+isDynamic int = false
+isDynamic SAFE = false
+isDynamic SEQ = false
+isDynamic DYNAMIC = true
+
+abbrev pub notSafe : Kind → Bool
+notSafe int = false
+notSafe SAFE = false
+notSafe SEQ = true
+notSafe DYNAMIC = true
+
+-- A DYNAMIC type whose target is a reference has a DYNAMIC target.
+abbrev pub spreads : Kind → Kind → Bool
+spreads int b = true
+spreads SAFE b = true
+spreads SEQ b = true
+spreads DYNAMIC int = true
+spreads DYNAMIC SAFE = false
+spreads DYNAMIC SEQ = false
+spreads DYNAMIC DYNAMIC = true
+
+abbrev pub typeKind : Routine → List ℕ → ℕ → Bool
+typeKind r m t = spreads (kind m t) (kind m (r .target t))
+
+-- The a of a pointer sum is not SAFE; each cast converts.
+abbrev pub exprKind : Routine → List ℕ → Expr → Bool
+exprKind r m (literal n) = true
+exprKind r m (home g) = true
+exprKind r m (cast a t) = converts r m (typeOf r a) t
+exprKind r m (null t) = true
+exprKind r m (sum a b) = notSafe (kind m (typeOf r a))
+exprKind r m (read a) = true
+exprKind r m (op o a b) = true
+exprKind r m Expr.none = true
+
+-- Each store's value converts to the target of the pointer's type.
+abbrev pub commandKind : Routine → List ℕ → Command → Bool
+commandKind r m skip = true
+commandKind r m (seq a b) = true
+commandKind r m (store a b) = converts r m (typeOf r b) (r .target (typeOf r a))
+commandKind r m (ifElse a b c) = true
+commandKind r m (while a b) = true
+commandKind r m Command.none = true
+
+-- A marking that earns neither 7 nor 8. Type row i is that of type i + 1.
+pub record Acceptable (r : Routine) (m : List ℕ) : Type 0 where
+  pub size : length m ≡ r .types
+  pub bytes : (i : ℕ) → i < r .types → getD m i 0 ≤ 2
+  pub types : (i : ℕ) → i < r .types → typeKind r m (suc i) ≡ true
+  pub exprs : (e : ℕ) → e < r .exprs → exprKind r m (r .expr e) ≡ true
+  pub commands : (c : ℕ) → c < r .commands → commandKind r m (r .command c) ≡ true
+
+-- The test: refusal 7, length before bytes, then 8 over types, expressions, commands (RULES 2.2).
+-- It refuses exactly the markings that are not acceptable (`Tested`).
+unfoldable pub kinds : {X : Type 0} → Routine → List ℕ → (Unit {0} → Verdict X) → Verdict X
+kinds r m go =
+    guard 7 (min (length m) (r .types)) (eqb (length m) (r .types)) λ _.
+    firstBad 7 (λ i. leb (getD m i 0) 2) (λ i. i) 0 (r .types) λ _.
+    firstBad 8 (λ i. typeKind r m (suc i)) (λ i. r .typePlace (suc i)) 0 (r .types) λ _.
+    firstBad 8 (λ e. exprKind r m (r .expr e)) (r .exprPlace) 0 (r .exprs) λ _.
+    firstBad 8 (λ c. commandKind r m (r .command c)) (r .commandPlace) 0 (r .commands) go

@@ -1,0 +1,66 @@
+// The types that code and definitions share: run-time values, sections, and the answers of the calls.
+
+// A run-time value: a plain number, or the pair of a home number and an offset.
+pub enum Value {
+    Number(u32),
+    Pair(u32, u32),
+}
+
+// A section of the file, with the counts that its rows are judged by: types, then homes; expressions.
+pub enum Section {
+    Types,
+    Homes(usize),
+    Exprs(usize, usize),
+    Commands(usize),
+}
+
+// The places of the four sections' counts.
+pub struct Starts {
+    pub types: u32,
+    pub homes: u32,
+    pub exprs: u32,
+    pub commands: u32,
+}
+
+// A refusal's number, 1 to 9, and its place.
+pub struct Refusal {
+    pub number: u32,
+    pub place: u32,
+}
+
+// What reading a file answers.
+pub enum ReadAnswer {
+    WellFormed(Starts),
+    Refused(Refusal),
+}
+
+// What checking a marking answers.
+pub enum CheckAnswer {
+    Accepted,
+    Refused(Refusal),
+}
+
+// What inference answers, beside the lent marking.
+pub enum InferAnswer {
+    Marked,
+    Refused(Refusal),
+}
+
+// How a run ends: done; no fuel for the row at a place; a check's number and the place of the row that made it.
+pub enum Outcome {
+    Done,
+    Fuel(u32),
+    Check(u32, u32),
+}
+
+// A run's outcome and the units that it spent.
+pub struct Report {
+    pub outcome: Outcome,
+    pub units: u32,
+}
+
+// What a run answers, beside the lent memory.
+pub enum RunAnswer {
+    Ran(Report),
+    Refused(Refusal),
+}
