@@ -14,7 +14,6 @@ use Rattle.rules.specs.declared.InferAnswer.{InferAnswer}
 use Rattle.rules.specs.declared.InferAnswer.the-variants as infers
 use Rattle.rules.specs.declared.Outcome.{Outcome}
 use Rattle.rules.specs.declared.Outcome.the-variants.{Done, Fuel, Check}
-use Rattle.rules.specs.declared.Report.{Report}
 use Rattle.rules.specs.declared.RunAnswer.{RunAnswer}
 use Rattle.rules.specs.declared.RunAnswer.the-variants as runs
 use Rattle.rules.specs.Basic.{Verdict, fine, refused, unlessRefused, guard}

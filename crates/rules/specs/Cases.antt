@@ -16,11 +16,11 @@ use Rattle.rules.specs.Reading.{rowGood, rows, section, cells, reading}
 use Rattle.rules.specs.Shape.{typeOf, shape}
 use Rattle.rules.specs.Kinds.{same, converts, Acceptable, kinds}
 use Rattle.rules.specs.Least.{Least}
-use Rattle.rules.specs.Steps.{Told, entered, stored}
 use Rattle.rules.specs.Memory.{encode}
-use Rattle.rules.specs.Run.{Answer, got, stopped, andThen, ruled, enter, afterwards, eval, start, run, done}
+use Rattle.rules.specs.Run.{Answer, got, stopped, andThen, ruled, enter, afterwards, eval, start}
 use Rattle.rules.specs.Calls.{formed, judged, runnable, running, Ended, Left, finished, outOfFuel, failedCheck}
-use Rattle.rules.specs.Tested.{refused-fine, kinds-acceptable, acceptable-kinds}
+use Rattle.rules.specs.Tests.{false-true, parts-true}
+use Rattle.rules.specs.Tested.{kinds-acceptable, acceptable-kinds}
 
 -- ---- files, row by row
 
@@ -254,23 +254,16 @@ least-agree = refl
 
 -- ---- what the computed test of least says
 
-absurd-test : {A : Type 0} → false ≡ true → A
-absurd-test h = let z : _≡_ {A = ℕ} 0 1 = ap (λ b. elim b [ true ↦ 1 | false ↦ 0 ]) h in absurd (omega arith)
-
-both : (a b : Bool) → (a && b) ≡ true → (a ≡ true) × (b ≡ true)
-both true b h = (refl, h)
-both false b h = absurd-test h
-
 implied : (a b : Bool) → (not a || b) ≡ true → a ≡ true → b ≡ true
 implied true b h e = h
-implied false b h e = absurd-test e
+implied false b h e = false-true e
 
 accepts-acceptable : (r : Routine) (m : List ℕ) → accepts r m ≡ true → Acceptable r m
 accepts-acceptable r m h = go (kinds r m (λ _. fine tt)) refl h
   where
     go : (v : Verdict (Unit {0})) → kinds r m (λ _. fine tt) ≡ v → isFine v ≡ true → Acceptable r m
     go (fine x) e h = kinds-acceptable r m (λ _. fine tt) x e .0
-    go (refused n p) e h = absurd-test h
+    go (refused n p) e h = false-true h
 
 acceptable-accepts : (r : Routine) (m : List ℕ) → Acceptable r m → accepts r m ≡ true
 acceptable-accepts r m a = ap isFine (acceptable-kinds r m (λ _. fine tt) a)
@@ -280,8 +273,8 @@ every-marking zero P h [] e l = h
 every-marking zero P h (k ∷ m) e l = absurd (omega arith)
 every-marking (suc n) P h [] e l = absurd (omega arith)
 every-marking (suc n) P h (k ∷ m) e l =
-    let (a, bc) = both (every n (λ m. P (0 ∷ m))) _ h in
-    let (b, c) = both (every n (λ m. P (1 ∷ m))) _ bc in
+    let (a, bc) = parts-true (every n (λ m. P (0 ∷ m))) _ h in
+    let (b, c) = parts-true (every n (λ m. P (1 ∷ m))) _ bc in
     byte k (l 0 (omega arith))
     (λ Q q. every-marking n Q q m (omega arith) (λ i u. l (suc i) (omega arith))) a b c
   where
@@ -294,14 +287,14 @@ every-marking (suc n) P h (k ∷ m) e l =
 
 lower-at : (m w : List ℕ) → lower m w ≡ true → (i : ℕ) → getD m i 0 ≤ getD w i 0
 lower-at [] w h i = omega arith
-lower-at (k ∷ m) [] h zero = leb-true k 0 (both (leb k 0) _ h .0)
-lower-at (k ∷ m) [] h (suc i) = lower-at m [] (both (leb k 0) _ h .1) i
-lower-at (k ∷ m) (l ∷ w) h zero = leb-true k l (both (leb k l) _ h .0)
-lower-at (k ∷ m) (l ∷ w) h (suc i) = lower-at m w (both (leb k l) _ h .1) i
+lower-at (k ∷ m) [] h zero = leb-true k 0 (parts-true (leb k 0) _ h .0)
+lower-at (k ∷ m) [] h (suc i) = lower-at m [] (parts-true (leb k 0) _ h .1) i
+lower-at (k ∷ m) (l ∷ w) h zero = leb-true k l (parts-true (leb k l) _ h .0)
+lower-at (k ∷ m) (l ∷ w) h (suc i) = lower-at m w (parts-true (leb k l) _ h .1) i
 
 isLeast-least : (r : Routine) (m : List ℕ) → isLeast r m ≡ true → Least r m
 isLeast-least r m h =
-    let (a, e) = both (accepts r m) _ h in
+    let (a, e) = parts-true (accepts r m) _ h in
     record {
       acceptable = accepts-acceptable r m a;
       lowest = λ w b i l.

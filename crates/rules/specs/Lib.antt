@@ -13,5 +13,6 @@ pub mod Values
 pub mod Run
 pub mod Valid
 pub mod Calls
+pub mod Tests
 pub mod Tested
 pub mod Cases

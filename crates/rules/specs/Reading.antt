@@ -8,7 +8,7 @@ use Rattle.rules.specs.declared.Starts.{Starts}
 use Rattle.rules.specs.declared.Section.{Section}
 use Rattle.rules.specs.declared.Section.the-variants.{Types, Homes, Exprs, Commands}
 use Rattle.rules.specs.Table.{Expr, Command, exprAt, commandAt, literal, home, cast, null, sum, read, op, skip, seq, store, ifElse, while}
-use Rattle.rules.specs.Basic.{byte, half, choose, inRange, Verdict, fine, refused, guard, scan}
+use Rattle.rules.specs.Basic.{byte, half, inRange, Verdict, fine, guard, scan}
 
 -- ---- the sections (RULES 1.2)
 

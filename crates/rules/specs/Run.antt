@@ -1,6 +1,5 @@
 -- A run: expressions, commands, the starting memory (RULES 6).
 use Prim.Native.Nat.{ℕ, zero, suc, _-_}
-use mathlib.Core.Bool.{Bool, true, false}
 use mathlib.Core.List.{List, [], _∷_, _++_}
 use lib.ListN.{length, replicate, drop}
 use Rattle.rules.specs.declared.Value.{Value}
@@ -9,7 +8,7 @@ use Rattle.rules.specs.Basic.{choose}
 use Rattle.rules.specs.Table.{Expr, Command, Home, Routine, literal, home, cast, null, sum, read, op, skip, seq, store, ifElse, while}
 use Rattle.rules.specs.Shape.{homeAt, typeOf}
 use Rattle.rules.specs.Kinds.{Kind, int, SAFE, SEQ, DYNAMIC, kind}
-use Rattle.rules.specs.Steps.{Step, entered, stored, Told, quiet, after}
+use Rattle.rules.specs.Steps.{entered, stored, Told, quiet, after}
 use Rattle.rules.specs.Memory.{State, encode, put}
 use Rattle.rules.specs.Ruled.{Check, Ruled, gives, fails, stuck}
 use Rattle.rules.specs.Values.{convert, homeValue, nullValue, moved, operated, truth, reach, load, kept}

@@ -1,14 +1,14 @@
 -- The test for refusals 7 and 8 refuses exactly the markings that are not acceptable. A scan passes exactly if every row passes.
 use mathlib.Core.Path.{_≡_, refl}
 use mathlib.Core.Bool.{Bool, true, false}
-use Prim.Native.Nat.{ℕ, zero, suc, _+_, _≤_, _<_, min, zero-le}
+use Prim.Native.Nat.{ℕ, zero, suc, _+_, _≤_, _<_, zero-le}
 use native.Mathlib.Decide.{decLe}
 use native.Mathlib.Omega.{arith}
 use mathlib.Core.List.{List}
 use lib.ListN.{getD, length}
 use lib.Dec.{leb, eqb}
 use borrow.Author.Tests.{leb-true, le-leb, eqb-true, eq-eqb}
-use Rattle.rules.specs.Basic.{choose, Verdict, fine, refused, guard, scan, firstBad}
+use Rattle.rules.specs.Basic.{Verdict, fine, refused, guard, scan, firstBad}
 use Rattle.rules.specs.Table.{Routine}
 use Rattle.rules.specs.Kinds.{typeKind, exprKind, commandKind, Acceptable, kinds}
 

@@ -1,0 +1,15 @@
+pub mod Promises
+pub mod Same
+pub mod Values
+pub mod Store
+pub mod Steps
+pub mod Formed
+pub mod Sound
+pub mod Units
+pub mod Prefix
+pub mod Start
+pub mod Read
+pub mod Depth
+pub mod Forget
+pub mod Dynamic
+pub mod Proofs

@@ -1,0 +1,155 @@
+-- What is promised of the rules. Statements only: the proofs are in `Proofs`.
+use mathlib.Core.Path.{_≡_}
+use mathlib.Core.Logic.{_⊎_}
+use mathlib.Core.Bool.{true}
+use Prim.Native.Nat.{ℕ, _+_, _%_, _≤_, _<_}
+use mathlib.Core.List.{List, _∷_, _++_}
+use lib.ListN.{drop, take, replicate}
+use Rattle.rules.specs.declared.Value.{Value}
+use Rattle.rules.specs.declared.Value.the-variants.{Number, Pair}
+use Rattle.rules.specs.declared.Starts.{Starts}
+use Rattle.rules.specs.Basic.{byte, width, fine}
+use Rattle.rules.specs.Table.{Routine, routine}
+use Rattle.rules.specs.Kinds.{Kind, SAFE, kind, notSafe, same, Acceptable}
+use Rattle.rules.specs.Least.{Least}
+use Rattle.rules.specs.Steps.{Step, entered, stored, Told, units}
+use Rattle.rules.specs.Memory.{State, replay}
+use Rattle.rules.specs.Ruled.{Check, check2, gives, fails}
+use Rattle.rules.specs.Values.{convert, reach, moved}
+use Rattle.rules.specs.Run.{Stop, noFuel, failed, noRule, Ran, done, halted, start, run}
+use Rattle.rules.specs.Valid.{InHome, Valid, ValidState}
+use Rattle.rules.specs.Calls.{formed, judged, cellCount, stateOf, Left, Inferred}
+
+-- ---- words
+
+pub record Bytes (s : List ℕ) : Type 0 where
+  pub each : (i : ℕ) → byte s i < 256
+
+-- No fuel, or a check 1 to 4: not stuck.
+pub data Proper : Stop → Type 0 where
+  fuel : {p : ℕ} → Proper (noFuel p)
+  check : {c : Check} {p f : ℕ} → Proper (failed c p f)
+
+-- A run is done, out of fuel or stopped by a check.
+pub data Ended : Ran → Type 0 where
+  atDone : {w : State} {f : ℕ} → Ended (done w f)
+  atStop : {w : State} {s : Stop} → Proper s → Ended (halted w s)
+
+-- The fuel that is left.
+abbrev pub leftAt : Stop → ℕ
+leftAt (noFuel p) = 0
+leftAt (failed c p f) = f
+leftAt (noRule p f) = f
+
+abbrev pub leftAfter : Ran → ℕ
+leftAfter (done w f) = f
+leftAfter (halted w s) = leftAt s
+
+-- An end, with d more fuel left.
+abbrev pub stopMore : ℕ → Stop → Stop
+stopMore d (noFuel p) = noFuel p
+stopMore d (failed c p f) = failed c p (f + d)
+stopMore d (noRule p f) = noRule p (f + d)
+
+abbrev pub ranMore : ℕ → Ran → Ran
+ranMore d (done w f) = done w (f + d)
+ranMore d (halted w s) = halted w (stopMore d s)
+
+-- Out of fuel at the row at place p.
+pub data CutRan : ℕ → Ran → Type 0 where
+  cutRan : {w : State} {p : ℕ} → CutRan p (halted w (noFuel p))
+
+-- y takes the steps of x, and ends as x does or goes on by entering the row for which x had no fuel.
+pub data Longer {X : Type 0} (more : X → X) (out : ℕ → X → Type 0) (x y : Told X) : Type 0 where
+  alike : y .answer ≡ more (x .answer) → y .steps ≡ x .steps → Longer more out x y
+  longer : {p : ℕ} (l : List Step) → out p (x .answer) → y .steps ≡ x .steps ++ entered p ∷ l → Longer more out x y
+
+-- ---- demand 3
+
+-- A run from state w, step by step. `before` is any part of its steps from the first on.
+pub record Safe (r : Routine) (m : List ℕ) (w : State) (x : Told Ran) : Type 0 where
+  -- It ends in done, fuel or a check 1 to 4: it is never stuck.
+  pub outcome : Ended (x .answer)
+  -- It never stores outside the homes.
+  pub inside : (before after : List Step) (a : ℕ) (v : Value) → x .steps ≡ before ++ stored a v ∷ after → InHome (replay w before .homes) a
+  -- At the start, and after every step, each cell holds a value valid for its home.
+  pub valid : (before after : List Step) → x .steps ≡ before ++ after → ValidState r m (replay w before)
+  -- And its memory is as after the last store.
+  pub last : stateOf (x .answer) ≡ replay w (x .steps)
+
+-- For every file of bytes that earns none of refusals 1 to 6, every marking that earns neither 7 nor 8, every lent memory and every fuel.
+abbrev pub Safety : Type 0
+Safety = (s m lent : List ℕ) (fuel : ℕ) (at : Starts) → Bytes s → judged s m ≡ fine at
+    → Safe (routine s at) m (start (routine s at) m lent) (run (routine s at) m lent fuel)
+
+-- Lent memory past the cells stays as it was.
+abbrev pub Surplus : Type 0
+Surplus = (s m lent : List ℕ) (fuel : ℕ) (at : Starts) → Bytes s → judged s m ≡ fine at
+    → let n = cellCount (routine s at) in drop n (stateOf (run (routine s at) m lent fuel .answer) .memory) ≡ drop n lent
+
+-- ---- units
+
+-- The units are the rows entered, and with the fuel left they are the fuel given: for every routine, accepted or not.
+abbrev pub Spending : Type 0
+Spending = (r : Routine) (m lent : List ℕ) (fuel : ℕ) → units (run r m lent fuel .steps) + leftAfter (run r m lent fuel .answer) ≡ fuel
+
+-- A run with fuel k is the first k rows of every run with more: `d` is how much more.
+abbrev pub Prefixes : Type 0
+Prefixes = (r : Routine) (m lent : List ℕ) (k d : ℕ) → Longer (ranMore d) CutRan (run r m lent k) (run r m lent (k + d))
+
+-- ---- markings
+
+-- Equality of types is an equivalence. Equal types have equal kinds, and the same values are valid for both.
+pub record Equality (r : Routine) (m : List ℕ) : Type 0 where
+  pub reflexive : (t : ℕ) → same r m t t ≡ true
+  pub symmetric : (t u : ℕ) → same r m t u ≡ true → same r m u t ≡ true
+  pub transitive : (t u v : ℕ) → same r m t u ≡ true → same r m u v ≡ true → same r m t v ≡ true
+  pub kinds : (t u : ℕ) → same r m t u ≡ true → kind m t ≡ kind m u
+  pub values : {w : State} → ValidState r m w → (t u : ℕ) (v : Value) → t ≤ r .types → same r m t u ≡ true
+      → Valid r m (w .homes) t v → Valid r m (w .homes) u v
+
+abbrev pub Equal : Type 0
+Equal = (s m : List ℕ) (at : Starts) → Bytes s → formed s ≡ fine at → Equality (routine s at) m
+
+-- All DYNAMIC is accepted for every well-formed file.
+abbrev pub AllDynamic : Type 0
+AllDynamic = (s : List ℕ) (at : Starts) → Bytes s → formed s ≡ fine at → judged s (replicate (routine s at .types) 2) ≡ fine at
+
+-- A marking is accepted exactly if it is acceptable.
+pub record Judges (s m : List ℕ) (at : Starts) : Type 0 where
+  pub only : judged s m ≡ fine at → Acceptable (routine s at) m
+  pub every : Acceptable (routine s at) m → judged s m ≡ fine at
+
+abbrev pub Exactly : Type 0
+Exactly = (s m : List ℕ) (at : Starts) → formed s ≡ fine at → Judges s m at
+
+-- The least marking of a well-formed file exists, and there is one only.
+pub record LeastMarking (r : Routine) : Type 0 where
+  pub marking : List ℕ
+  pub least : Least r marking
+  pub only : (m : List ℕ) → Least r m → m ≡ marking
+
+abbrev pub LeastExists : Type 0
+LeastExists = (s : List ℕ) (at : Starts) → Bytes s → formed s ≡ fine at → LeastMarking (routine s at)
+
+-- Inference has one outcome only: one answer, and one content of what was lent.
+abbrev pub OneInference : Type 0
+OneInference = (s lent : List ℕ) (x y : Left (Unit {0})) → Inferred s lent x → Inferred s lent y → x ≡ y
+
+-- ---- a number gives nobody a way back
+
+-- A pointer made of a number names home 0, also after sums. Every access through it fails a check, and as SAFE it is null or fails one.
+pub record Nowhere (w : State) (s : Kind) (n : ℕ) : Type 0 where
+  pub made : convert w s (Number n) ≡ gives (Pair 0 n)
+  pub summed : (k : ℕ) → moved (Pair 0 n) (Number k) ≡ gives (Pair 0 ((n + k) % width))
+  pub access : (c : Check) × (reach w s (Pair 0 n) ≡ fails c)
+  pub narrowed : (convert w SAFE (Pair 0 n) ≡ gives (Number 0)) ⊎ (convert w SAFE (Pair 0 n) ≡ fails check2)
+
+abbrev pub MadeOfNumber : Type 0
+MadeOfNumber = (r : Routine) (m : List ℕ) (w : State) → ValidState r m w → (s : Kind) → notSafe s ≡ true → (n : ℕ) → Nowhere w s n
+
+-- ---- reading
+
+-- The first 13,063 bytes decide.
+abbrev pub FirstBytes : Type 0
+FirstBytes = (s : List ℕ) → Bytes s → formed s ≡ formed (take 13063 s)

@@ -1,0 +1,134 @@
+-- The promises, proved.
+use mathlib.Core.Bool.{Bool, true, false}
+use Rattle.rules.specs.declared.Value.{Value}
+use Rattle.rules.specs.declared.Value.the-variants.{Number, Pair}
+use Rattle.rules.specs.declared.Starts.{Starts}
+use Rattle.rules.specs.Basic.{fine}
+use Rattle.rules.specs.Steps.{Step, entered, stored}
+use Rattle.rules.specs.Table.{Routine, routine, total}
+use Rattle.rules.specs.Shape.{homeAt}
+use Rattle.rules.specs.Kinds.{Acceptable, int, SAFE, SEQ, DYNAMIC}
+use Rattle.rules.specs.Calls.{formed, judged}
+use Rattle.rules.specs.Memory.{State, replay, encode}
+use Rattle.rules.specs.Ruled.{Check, check1, check2, check3, gives, fails}
+use Rattle.rules.specs.Values.{convert, reach}
+use Rattle.rules.specs.Run.{startCells, start}
+use Rattle.rules.specs.Valid.{InHome, Laid, ValidState}
+use mathlib.Core.Path.{_≡_, refl, _∙_}
+use mathlib.Core.Logic.{_⊎_, inl, inr}
+use Prim.Native.Nat.{ℕ, suc, _-_}
+use native.Mathlib.Omega.{arith}
+use mathlib.Core.List.{List, [], _∷_, _++_}
+use lib.ListN.{length, drop}
+use lib.Seq.{drop-set-lt, drop-append-seam}
+use lib.Dec.{ltb}
+use borrow.Author.Tests.{ltb-true}
+use Rattle.rules.specs.Tests.{false-true}
+use Rattle.laws.specs.Promises.{Bytes, Safety, Spending, Prefixes, Surplus, MadeOfNumber, Equal, AllDynamic, Exactly}
+use Rattle.laws.specs.Values.{null-address, valid-same}
+use Rattle.laws.specs.Steps.{Steps, still, enters, stores, steps-valid}
+use Rattle.laws.specs.Formed.{Formed}
+use Rattle.laws.specs.Sound.{exec-ok}
+use Rattle.laws.specs.Units.{exec-spends}
+use Rattle.laws.specs.Prefix.{exec-longer}
+use Rattle.laws.specs.Start.{length-start, start-laid, start-ok}
+use Rattle.laws.specs.Read.{formed-fine, judged-fine, acceptable-judged}
+use Rattle.laws.specs.Same.{reflexive, symmetric, trans, same-kind}
+use Rattle.laws.specs.Dynamic.{all-acceptable}
+
+module _ {r : Routine} {m : List ℕ} where
+  split : {w w′ : State} {k : List Step} (l : List Step) → Steps r m w (l ++ k) w′ → Steps r m w l (replay w l) × Steps r m (replay w l) k w′
+  split [] x = (still, x)
+  split (entered p ∷ l) (enters x) = let (a, b) = split l x in (enters a, b)
+  split (stored a v ∷ l) (stores i o x) = let (y, z) = split l x in (stores i o y, z)
+
+  ends : {w w′ : State} {l : List Step} → Steps r m w l w′ → w′ ≡ replay w l
+  ends still = refl
+  ends (enters x) = ends x
+  ends (stores i o x) = ends x
+
+  in-home : {w w′ : State} {a : ℕ} {v : Value} {l : List Step} → Steps r m w (stored a v ∷ l) w′ → InHome (w .homes) a
+  in-home (stores i o x) = i
+
+-- A file's bytes and its marking, taken apart.
+accepted : {s m : List ℕ} {at : Starts} → Bytes s → judged s m ≡ fine at → Formed (routine s at) × Acceptable (routine s at) m
+accepted {s} {m} b j = let (f, k) = judged-fine s m j in (formed-fine b f, k)
+
+pub safety : Safety
+safety s m lent fuel at b j =
+    let (f, k) = accepted b j in
+    let ok = start-ok (routine s at) m f lent in
+    let x = exec-ok f k (routine s at .commands - 1) fuel (omega (arith, f .some)) ok in
+    record {
+      outcome = x .answer;
+      inside = λ before after a v e. in-home (split before (rw e at (x .steps)) .1);
+      valid = λ before after e. steps-valid ok (split before (rw e at (x .steps)) .0);
+      last = ends (x .steps);
+    }
+
+pub spending : Spending
+spending r m lent fuel = exec-spends r m (suc (r .commands - 1)) (start r m lent) (r .commands - 1) fuel .by
+
+pub prefixes : Prefixes
+prefixes r m lent k d = exec-longer d r m (suc (r .commands - 1)) (start r m lent) (r .commands - 1) k
+
+-- ---- lent memory past the cells
+
+past : {r : Routine} {m : List ℕ} {w w′ : State} {l : List Step} (n : ℕ) → Laid r n (w .homes) → Steps r m w l w′ → drop n (w′ .memory) ≡ drop n (w .memory)
+past n laid still = refl
+past n laid (enters x) = past n laid x
+past n laid (stores {w = w} {a = a} {v = v} i o x) =
+    past n laid x ∙ drop-set-lt n (w .memory) (a - 1) (encode v) (omega (arith, laid .low (i .real), laid .high (i .real), i .inside .from, i .inside .to))
+
+pub surplus : Surplus
+surplus s m lent fuel at b j =
+    let r = routine s at in
+    let (f, k) = accepted b j in
+    let n = total (drop 1 (routine s at .homes)) in
+    let x = exec-ok f k (r .commands - 1) fuel (omega (arith, f .some)) (start-ok r m f lent) in
+    past n (start-laid r m f lent) (x .steps) ∙ from-lent n (startCells r m (drop 1 (r .homes))) (length-start r m (drop 1 (r .homes)))
+  where
+    from-lent : (n : ℕ) (cells : List ℕ) → length cells ≡ n → drop n (cells ++ drop (length cells) lent) ≡ drop n lent
+    from-lent n cells e = rw (← e) (drop-append-seam cells (drop (length cells) lent))
+
+-- ---- numbers made into pointers
+
+narrow : {r : Routine} {m : List ℕ} {w : State} → ValidState r m w → (n : ℕ)
+    → (convert w SAFE (Pair 0 n) ≡ gives (Number 0)) ⊎ (convert w SAFE (Pair 0 n) ≡ fails check2)
+narrow {w = w} ok n = go (ltb n (homeAt (w .homes) 0 .size)) refl
+  where
+    go : (b : Bool) → ltb n (homeAt (w .homes) 0 .size) ≡ b → (convert w SAFE (Pair 0 n) ≡ gives (Number 0)) ⊎ (convert w SAFE (Pair 0 n) ≡ fails check2)
+    go true e = inl (rw (e, null-address ok refl (ltb-true _ _ e)))
+    go false e = inr (rw e)
+
+pub made-of-number : MadeOfNumber
+made-of-number r m w ok int h n = false-true h
+made-of-number r m w ok SAFE h n = false-true h
+made-of-number r m w ok SEQ h n = record { made = refl; summed = λ k. refl; access = go (narrow ok n); narrowed = narrow ok n }
+  where
+    go : (convert w SAFE (Pair 0 n) ≡ gives (Number 0)) ⊎ (convert w SAFE (Pair 0 n) ≡ fails check2) → (c : Check) × (reach w SEQ (Pair 0 n) ≡ fails c)
+    go (inl e) = (check1, rw e)
+    go (inr e) = (check2, rw e)
+made-of-number r m w ok DYNAMIC h n = record { made = refl; summed = λ k. refl; access = (check3, refl); narrowed = narrow ok n }
+
+-- ---- markings
+
+pub equal : Equal
+equal s m at b f =
+    let r = routine s at in
+    record {
+      reflexive = reflexive r m;
+      symmetric = symmetric r m;
+      transitive = trans r m;
+      kinds = same-kind r m;
+      values = λ ok t u v l h y. valid-same ok (formed-fine b f .falls) l h y;
+    }
+
+pub all-dynamic : AllDynamic
+all-dynamic s at b f = acceptable-judged s _ f (all-acceptable (formed-fine b f))
+
+pub exactly : Exactly
+exactly s m at f = record { only = λ j. only (judged-fine s m j); every = λ a. acceptable-judged s m f a }
+  where
+    only : (formed s ≡ fine at) × Acceptable (routine s at) m → Acceptable (routine s at) m
+    only x = x .1
