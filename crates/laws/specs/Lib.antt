@@ -13,3 +13,4 @@ pub mod Depth
 pub mod Forget
 pub mod Dynamic
 pub mod Proofs
+pub mod Convert

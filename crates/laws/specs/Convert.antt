@@ -1,0 +1,87 @@
+-- A conversion between references, as four facts on the marking's bytes: what inference and its proofs go by.
+use mathlib.Core.Path.{_≡_, refl}
+use mathlib.Core.Bool.{Bool, true, false, _&&_}
+use Prim.Native.Nat.{ℕ, zero, suc, _≤_, _<_, zero-le, suc-le-suc}
+use native.Mathlib.Nat.{not-suc-le-zero}
+use native.Mathlib.Omega.{arith}
+use mathlib.Core.List.{List}
+use lib.ListN.{getD}
+use Rattle.rules.specs.Basic.{choose}
+use Rattle.rules.specs.Table.{Routine}
+use Rattle.rules.specs.Kinds.{int, kindOf, kindConverts, targetsMatter, same, converts}
+use Rattle.rules.specs.Tests.{false-true}
+
+-- The byte of type t; int has 0.
+abbrev pub byteOf : List ℕ → ℕ → ℕ
+byteOf m zero = 0
+byteOf m (suc t) = getD m t 0
+
+-- What a conversion of reference s to reference t says.
+pub record Conv (r : Routine) (m : List ℕ) (s t : ℕ) : Type 0 where
+  pub back-one : 1 ≤ byteOf m t → 1 ≤ byteOf m s
+  pub back-two : 2 ≤ byteOf m t → 2 ≤ byteOf m s
+  pub forth-two : 2 ≤ byteOf m s → 2 ≤ byteOf m t
+  pub targets : byteOf m s < 2 → same r m (r .target s) (r .target t) ≡ true
+
+-- a and b are the bytes, x whether the targets are equal.
+abbrev test : ℕ → ℕ → Bool → Bool
+test a b x = kindConverts (kindOf a) (kindOf b) && choose (targetsMatter (kindOf a) (kindOf b)) (λ _. x) (λ _. true)
+
+record Facts (a b : ℕ) (x : Bool) : Type 0 where
+  back-one : 1 ≤ b → 1 ≤ a
+  back-two : 2 ≤ b → 2 ≤ a
+  forth-two : 2 ≤ a → 2 ≤ b
+  targets : a < 2 → x ≡ true
+
+facts : (a b : ℕ) (x : Bool) → test a b x ≡ true → Facts a b x
+facts zero zero x h = record { back-one = λ i. i; back-two = λ i. i; forth-two = λ i. i; targets = λ i. h }
+facts zero (suc zero) x h = false-true h
+facts zero (suc (suc b)) x h = false-true h
+facts (suc zero) zero x h = record { back-one = λ i. omega arith; back-two = λ i. omega arith; forth-two = λ i. omega arith; targets = λ i. h }
+facts (suc zero) (suc zero) x h = record { back-one = λ i. i; back-two = λ i. i; forth-two = λ i. i; targets = λ i. h }
+facts (suc zero) (suc (suc b)) x h = false-true h
+facts (suc (suc a)) zero x h = false-true h
+facts (suc (suc a)) (suc zero) x h = false-true h
+facts (suc (suc a)) (suc (suc b)) x h =
+    record { back-one = λ i. omega arith; back-two = λ i. omega arith; forth-two = λ i. omega arith; targets = λ i. absurd (omega arith) }
+
+tests : (a b : ℕ) (x : Bool) → Facts a b x → test a b x ≡ true
+tests zero zero x f = f .targets (omega arith)
+tests zero (suc zero) x f = absurd (omega (arith, f .back-one (omega arith)))
+tests zero (suc (suc b)) x f = absurd (omega (arith, f .back-one (omega arith)))
+tests (suc zero) zero x f = f .targets (omega arith)
+tests (suc zero) (suc zero) x f = f .targets (omega arith)
+tests (suc zero) (suc (suc b)) x f = absurd (omega (arith, f .back-two (omega arith)))
+tests (suc (suc a)) zero x f = absurd (omega (arith, f .forth-two (omega arith)))
+tests (suc (suc a)) (suc zero) x f = absurd (omega (arith, f .forth-two (omega arith)))
+tests (suc (suc a)) (suc (suc b)) x f = refl
+
+pub conv-of : (r : Routine) (m : List ℕ) (s t : ℕ) → converts r m (suc s) (suc t) ≡ true → Conv r m (suc s) (suc t)
+unfolding converts
+conv-of r m s t h =
+    let f = facts (getD m s 0) (getD m t 0) (same r m (r .target (suc s)) (r .target (suc t))) h in
+    record { back-one = f .back-one; back-two = f .back-two; forth-two = f .forth-two; targets = f .targets }
+
+pub of-conv : (r : Routine) (m : List ℕ) (s t : ℕ) → Conv r m (suc s) (suc t) → converts r m (suc s) (suc t) ≡ true
+unfolding converts
+of-conv r m s t f =
+    tests (getD m s 0) (getD m t 0) (same r m (r .target (suc s)) (r .target (suc t)))
+    (record { back-one = f .back-one; back-two = f .back-two; forth-two = f .forth-two; targets = f .targets })
+
+pub any-to-int : (a : ℕ) (x : Bool) → (kindConverts (kindOf a) int && choose (targetsMatter (kindOf a) int) (λ _. x) (λ _. true)) ≡ true
+any-to-int zero x = refl
+any-to-int (suc zero) x = refl
+any-to-int (suc (suc a)) x = refl
+
+pub from-int : (b : ℕ) (x : Bool) → (kindConverts int (kindOf b) && choose (targetsMatter int (kindOf b)) (λ _. x) (λ _. true)) ≡ true → 1 ≤ b
+from-int zero x h = false-true h
+from-int (suc b) x h = suc-le-suc zero-le
+
+pub int-from : (b : ℕ) (x : Bool) → 1 ≤ b → (kindConverts int (kindOf b) && choose (targetsMatter int (kindOf b)) (λ _. x) (λ _. true)) ≡ true
+int-from zero x h = absurd (not-suc-le-zero h)
+int-from (suc zero) x h = refl
+int-from (suc (suc b)) x h = refl
+
+-- DYNAMIC goes down to the target.
+abbrev pub Spread : Routine → List ℕ → Type 0
+Spread r m = (t : ℕ) → 2 ≤ getD m t 0 → (i : ℕ) → r .target (suc t) ≡ suc i → 2 ≤ getD m i 0
