@@ -14,3 +14,7 @@ pub mod Forget
 pub mod Dynamic
 pub mod Proofs
 pub mod Convert
+pub mod Graph
+pub mod Solve
+pub mod Demands
+pub mod Least

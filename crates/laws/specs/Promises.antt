@@ -4,7 +4,7 @@ use mathlib.Core.Logic.{_⊎_}
 use mathlib.Core.Bool.{true}
 use Prim.Native.Nat.{ℕ, _+_, _%_, _≤_, _<_}
 use mathlib.Core.List.{List, _∷_, _++_}
-use lib.ListN.{drop, take, replicate}
+use lib.ListN.{length, getD, drop, take, replicate}
 use Rattle.rules.specs.declared.Value.{Value}
 use Rattle.rules.specs.declared.Value.the-variants.{Number, Pair}
 use Rattle.rules.specs.declared.Starts.{Starts}
@@ -19,6 +19,7 @@ use Rattle.rules.specs.Values.{convert, reach, moved}
 use Rattle.rules.specs.Run.{Stop, noFuel, failed, noRule, Ran, done, halted, start, run}
 use Rattle.rules.specs.Valid.{InHome, Valid, ValidState}
 use Rattle.rules.specs.Calls.{formed, judged, cellCount, stateOf, Left, Inferred}
+use Rattle.laws.specs.Graph.{Meets, Each, demands}
 
 -- ---- words
 
@@ -122,6 +123,14 @@ pub record Judges (s m : List ℕ) (at : Starts) : Type 0 where
 
 abbrev pub Exactly : Type 0
 Exactly = (s m : List ℕ) (at : Starts) → formed s ≡ fine at → Judges s m at
+
+-- A marking of the right length and bytes is acceptable exactly if it meets every demand of its routine's graph.
+pub record Meeting (r : Routine) (m : List ℕ) : Type 0 where
+  pub only : Acceptable r m → Each (Meets m) (demands r)
+  pub every : length m ≡ r .types → ((i : ℕ) → i < r .types → getD m i 0 ≤ 2) → Each (Meets m) (demands r) → Acceptable r m
+
+abbrev pub Demanded : Type 0
+Demanded = (s m : List ℕ) (at : Starts) → Bytes s → formed s ≡ fine at → Meeting (routine s at) m
 
 -- The least marking of a well-formed file exists, and there is one only.
 pub record LeastMarking (r : Routine) : Type 0 where

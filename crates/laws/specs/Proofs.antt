@@ -8,13 +8,13 @@ use Rattle.rules.specs.Steps.{Step, entered, stored}
 use Rattle.rules.specs.Table.{Routine, routine, total}
 use Rattle.rules.specs.Shape.{homeAt}
 use Rattle.rules.specs.Kinds.{Acceptable, int, SAFE, SEQ, DYNAMIC}
-use Rattle.rules.specs.Calls.{formed, judged}
+use Rattle.rules.specs.Calls.{formed, judged, left, marked}
 use Rattle.rules.specs.Memory.{State, replay, encode}
 use Rattle.rules.specs.Ruled.{Check, check1, check2, check3, gives, fails}
 use Rattle.rules.specs.Values.{convert, reach}
 use Rattle.rules.specs.Run.{startCells, start}
 use Rattle.rules.specs.Valid.{InHome, Laid, ValidState}
-use mathlib.Core.Path.{_≡_, refl, _∙_}
+use mathlib.Core.Path.{_≡_, refl, sym, _∙_}
 use mathlib.Core.Logic.{_⊎_, inl, inr}
 use Prim.Native.Nat.{ℕ, suc, _-_}
 use native.Mathlib.Omega.{arith}
@@ -24,7 +24,8 @@ use lib.Seq.{drop-set-lt, drop-append-seam}
 use lib.Dec.{ltb}
 use borrow.Author.Tests.{ltb-true}
 use Rattle.rules.specs.Tests.{false-true}
-use Rattle.laws.specs.Promises.{Bytes, Safety, Spending, Prefixes, Surplus, MadeOfNumber, Equal, AllDynamic, Exactly}
+use Rattle.rules.specs.Tested.{refused-fine}
+use Rattle.laws.specs.Promises.{Bytes, Safety, Spending, Prefixes, Surplus, MadeOfNumber, Equal, AllDynamic, Exactly, Demanded, LeastExists, OneInference}
 use Rattle.laws.specs.Values.{null-address, valid-same}
 use Rattle.laws.specs.Steps.{Steps, still, enters, stores, steps-valid}
 use Rattle.laws.specs.Formed.{Formed}
@@ -32,9 +33,10 @@ use Rattle.laws.specs.Sound.{exec-ok}
 use Rattle.laws.specs.Units.{exec-spends}
 use Rattle.laws.specs.Prefix.{exec-longer}
 use Rattle.laws.specs.Start.{length-start, start-laid, start-ok}
-use Rattle.laws.specs.Read.{formed-fine, judged-fine, acceptable-judged}
+use Rattle.laws.specs.Read.{fine-same, formed-fine, judged-fine, acceptable-judged}
 use Rattle.laws.specs.Same.{reflexive, symmetric, trans, same-kind}
 use Rattle.laws.specs.Dynamic.{all-acceptable}
+use Rattle.laws.specs.Least.{acceptable-meets, meets-acceptable, least-exists, least-unique}
 
 module _ {r : Routine} {m : List ℕ} where
   split : {w w′ : State} {k : List Step} (l : List Step) → Steps r m w (l ++ k) w′ → Steps r m w l (replay w l) × Steps r m (replay w l) k w′
@@ -132,3 +134,20 @@ exactly s m at f = record { only = λ j. only (judged-fine s m j); every = λ a.
   where
     only : (formed s ≡ fine at) × Acceptable (routine s at) m → Acceptable (routine s at) m
     only x = x .1
+
+pub demanded : Demanded
+demanded s m at b f =
+    let r = routine s at in record { only = λ a. acceptable-meets r m a; every = λ l k h. meets-acceptable r m (formed-fine b f) l k h }
+
+pub least-marking : LeastExists
+least-marking s at b f =
+    let x = least-exists (formed-fine b f) in record { marking = x .marking; least = x .least; only = λ m l. least-unique l (x .least) }
+
+pub one-inference : OneInference
+one-inference s lent x y (left {n = n} {p = p} e) (left {n = n′} {p = p′} e′) = let a : n ≡ n′ = cc in let b : p ≡ p′ = cc in rw (a, b)
+one-inference s lent x y (left e) (marked e′ l) = refused-fine (sym e ∙ e′)
+one-inference s lent x y (marked e l) (left e′) = refused-fine (sym e′ ∙ e)
+one-inference s lent x y (marked {at = at} {m = m} e l) (marked {at = at′} {m = m′} e′ l′) =
+    let a : at ≡ at′ = fine-same (sym e ∙ e′) in
+    let b : m ≡ m′ = least-unique l (rw a l′) in
+    rw b
