@@ -18,3 +18,4 @@ pub mod Graph
 pub mod Solve
 pub mod Demands
 pub mod Least
+pub mod Front

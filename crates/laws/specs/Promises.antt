@@ -161,4 +161,4 @@ MadeOfNumber = (r : Routine) (m : List ℕ) (w : State) → ValidState r m w →
 
 -- The first 13,063 bytes decide.
 abbrev pub FirstBytes : Type 0
-FirstBytes = (s : List ℕ) → Bytes s → formed s ≡ formed (take 13063 s)
+FirstBytes = (s : List ℕ) → formed s ≡ formed (take 13063 s)
