@@ -19,3 +19,5 @@ pub mod Solve
 pub mod Demands
 pub mod Least
 pub mod Front
+pub mod Answers
+pub mod Lent
