@@ -13,6 +13,7 @@ use Rattle.rules.specs.Kinds.{Kind, int, SAFE, SEQ, DYNAMIC, kindOf, sameKind, 
 use Rattle.rules.specs.Tests.{false-true, parts-true, both-true, by-test}
 use Rattle.laws.specs.Same.{sameKind-refl, sameKind-eq}
 use Rattle.laws.specs.Values.{Falls}
+use Rattle.laws.specs.Formed.{ref-kind}
 use Rattle.laws.specs.Convert.{conv-of, of-conv, any-to-int, from-int, int-from, Spread}
 use Rattle.laws.specs.Graph.{Demand, Meets, Each, ends, pairs, conversion}
 
@@ -64,11 +65,6 @@ of-level (suc (suc k)) i b = omega arith
 passes-on : (k l i : ℕ) → i ≤ 2 → kindOf k ≡ kindOf l → i ≤ k → i ≤ l
 passes-on k l i a e h = of-level l i (rw e at (level-of k i a h))
 
-shallow-two : (k : ℕ) → deep (kindOf k) ≡ false → 2 ≤ k
-shallow-two zero h = false-true (sym h)
-shallow-two (suc zero) h = false-true (sym h)
-shallow-two (suc (suc k)) h = omega arith
-
 two-shallow : (k : ℕ) → 2 ≤ k → deep (kindOf k) ≡ false
 two-shallow zero h = absurd (omega arith)
 two-shallow (suc zero) h = absurd (omega arith)
@@ -114,22 +110,12 @@ module _ (r : Routine) (m : List ℕ) (p : ℕ) where
   wild-ends (suc a) zero t u h i = (h, (i, tt))
   wild-ends (suc a) (suc b) t u h i = tt
 
-  kind-clash : {X : Type 0} (k : ℕ) → sameKind int (kindOf k) ≡ true → X
-  kind-clash zero h = false-true h
-  kind-clash (suc zero) h = false-true h
-  kind-clash (suc (suc k)) h = false-true h
-
-  clash-kind : {X : Type 0} (k : ℕ) → sameKind (kindOf k) int ≡ true → X
-  clash-kind zero h = false-true h
-  clash-kind (suc zero) h = false-true h
-  clash-kind (suc (suc k)) h = false-true h
-
   alike-ends : (d a b t u : ℕ) → sameBelow r m d a b ≡ true → Each (Meets m) (ends p a b (suc t) (suc u))
   alike-ends d zero zero t u h = tt
   alike-ends zero zero (suc b) t u h = absurd (omega (arith, eqb-true 0 (suc b) h))
-  alike-ends (suc d) zero (suc b) t u h = kind-clash (getD m b 0) (parts-true (sameKind int (kindOf (getD m b 0))) _ h .0)
+  alike-ends (suc d) zero (suc b) t u h = absurd (ref-kind m (suc b) (omega arith) (sym (sameKind-eq int _ (parts-true _ _ h .0))))
   alike-ends zero (suc a) zero t u h = absurd (omega (arith, eqb-true (suc a) 0 h))
-  alike-ends (suc d) (suc a) zero t u h = clash-kind (getD m a 0) (parts-true (sameKind (kindOf (getD m a 0)) int) _ h .0)
+  alike-ends (suc d) (suc a) zero t u h = absurd (ref-kind m (suc a) (omega arith) (sameKind-eq _ int (parts-true _ _ h .0)))
   alike-ends d (suc a) (suc b) t u h = tt
 
   module _ (spread : Spread r m) where

@@ -39,6 +39,32 @@ gather-each P f (suc n) h i l = let (a, b) = each-split P (gather f n) (f n) h i
     here a b (yes e) = rw e a
     here a b (no x) = b (omega arith)
 
+-- Each demand is that of a row.
+pub record ByRow (P : Demand → Type 0) (r : Routine) : Type 0 where
+  pub types : (i : ℕ) → i < r .types → Each P (typeDemands r i)
+  pub exprs : (e : ℕ) → e < r .exprs → Each P (exprDemands r e)
+  pub commands : (c : ℕ) → c < r .commands → Each P (commandDemands r c)
+
+pub rows-each : (P : Demand → Type 0) (r : Routine) → ByRow P r → Each P (demands r)
+unfolding demands
+rows-each P r h =
+    each-join P (gather (typeDemands r) (r .types)) (gather (exprDemands r) (r .exprs) ++ gather (commandDemands r) (r .commands))
+    (each-gather P (typeDemands r) (r .types) (h .types))
+    (each-join P (gather (exprDemands r) (r .exprs)) (gather (commandDemands r) (r .commands))
+    (each-gather P (exprDemands r) (r .exprs) (h .exprs))
+    (each-gather P (commandDemands r) (r .commands) (h .commands)))
+
+pub each-rows : (P : Demand → Type 0) (r : Routine) → Each P (demands r) → ByRow P r
+unfolding demands
+each-rows P r h =
+    let (x, y) = each-split P (gather (typeDemands r) (r .types)) (gather (exprDemands r) (r .exprs) ++ gather (commandDemands r) (r .commands)) h in
+    let (u, v) = each-split P (gather (exprDemands r) (r .exprs)) (gather (commandDemands r) (r .commands)) y in
+    record {
+      types = gather-each P (typeDemands r) (r .types) x;
+      exprs = gather-each P (exprDemands r) (r .exprs) u;
+      commands = gather-each P (commandDemands r) (r .commands) v;
+    }
+
 -- ---- a type row
 
 spreads-two : (a b : ℕ) → spreads (kindOf a) (kindOf b) ≡ true → 2 ≤ a → 2 ≤ b
@@ -156,30 +182,28 @@ module _ (r : Routine) (m : List ℕ) where
       go (no n) = absurd (omega (arith, List·getD-eq-default m 0 {n = t} (omega (arith, a .size))))
 
   pub acceptable-meets : Acceptable r m → Each (Meets m) (demands r)
-  unfolding demands
   acceptable-meets a =
       let s = spread a in
-      each-join (Meets m) (gather (typeDemands r) (r .types)) (gather (exprDemands r) (r .exprs) ++ gather (commandDemands r) (r .commands))
-      (each-gather (Meets m) (typeDemands r) (r .types) (λ i l. target-met (r .typePlace (suc i)) i (r .target (suc i)) (a .types i l)))
-      (each-join (Meets m) (gather (exprDemands r) (r .exprs)) (gather (commandDemands r) (r .commands))
-      (each-gather (Meets m) (exprDemands r) (r .exprs) (λ e l. need-met s (r .exprPlace e) (exprNeed r (r .expr e)) (rw (← expr-need r m (r .expr e)) (a .exprs e l))))
-      (each-gather (Meets m) (commandDemands r) (r .commands) (λ c l. need-met s (r .commandPlace c) (commandNeed r (r .command c)) (rw (← command-need r m (r .command c)) (a .commands c l)))))
+      rows-each (Meets m) r
+      (record {
+        types = λ i l. target-met (r .typePlace (suc i)) i (r .target (suc i)) (a .types i l);
+        exprs = λ e l. need-met s (r .exprPlace e) (exprNeed r (r .expr e)) (sym (expr-need r m (r .expr e)) ∙ a .exprs e l);
+        commands = λ c l. need-met s (r .commandPlace c) (commandNeed r (r .command c)) (sym (command-need r m (r .command c)) ∙ a .commands c l);
+      })
 
   pub meets-acceptable : Formed r → length m ≡ r .types → ((i : ℕ) → i < r .types → getD m i 0 ≤ 2) → Each (Meets m) (demands r) → Acceptable r m
-  unfolding demands
   meets-acceptable f l b h =
-      let (x, y) = each-split (Meets m) (gather (typeDemands r) (r .types)) (gather (exprDemands r) (r .exprs) ++ gather (commandDemands r) (r .commands)) h in
-      let (u, v) = each-split (Meets m) (gather (exprDemands r) (r .exprs)) (gather (commandDemands r) (r .commands)) y in
+      let x = each-rows (Meets m) r h in
       record {
         size = l;
         bytes = b;
-        types = λ i k. met-target (r .typePlace (suc i)) i (r .target (suc i)) (gather-each (Meets m) (typeDemands r) (r .types) x i k);
+        types = λ i k. met-target (r .typePlace (suc i)) i (r .target (suc i)) (x .types i k);
         exprs = λ e k.
-            rw (expr-need r m (r .expr e))
-            (met-need f (r .exprPlace e) (exprNeed r (r .expr e)) (expr-fits f (r .expr e) k (f .exprs e k .0)) (gather-each (Meets m) (exprDemands r) (r .exprs) u e k));
+            expr-need r m (r .expr e)
+            ∙ met-need f (r .exprPlace e) (exprNeed r (r .expr e)) (expr-fits f (r .expr e) k (f .exprs e k .0)) (x .exprs e k);
         commands = λ c k.
-            rw (command-need r m (r .command c))
-            (met-need f (r .commandPlace c) (commandNeed r (r .command c)) (command-fits f c (r .command c) (f .commands c k .0)) (gather-each (Meets m) (commandDemands r) (r .commands) v c k));
+            command-need r m (r .command c)
+            ∙ met-need f (r .commandPlace c) (commandNeed r (r .command c)) (command-fits f c (r .command c) (f .commands c k .0)) (x .commands c k);
       }
 
 -- ---- the least marking

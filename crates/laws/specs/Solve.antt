@@ -43,8 +43,8 @@ pub byte-below : (m w : List ℕ) (t : ℕ) → Below m w → byteOf m t ≤ byt
 byte-below m w zero h = zero-le
 byte-below m w (suc t) h = h t
 
-pub antisym : (m w : List ℕ) → length m ≡ length w → ((i : ℕ) → i < length m → getD m i 0 ≤ getD w i 0) → ((i : ℕ) → i < length m → getD w i 0 ≤ getD m i 0)
-    → m ≡ w
+pub antisym : (m w : List ℕ) → length m ≡ length w → ((i : ℕ) → i < length m → getD m i 0 ≤ getD w i 0)
+    → ((i : ℕ) → i < length m → getD w i 0 ≤ getD m i 0) → m ≡ w
 antisym m w l a b = ext-getD 0 m w l (λ i h. omega (arith, a i h, b i h))
 
 -- An entry after a set is the old one, or the new one at its place.
@@ -185,7 +185,13 @@ pub record Solution (ds : List Demand) (n : ℕ) : Type 0 where
 
 -- It is there if any marking meets the demands.
 pub solved : (ds : List Demand) (top : List ℕ) → Each (Meets top) ds → Solution ds (length top)
-solved ds top a = record { marking = x; size = e; meets = go (rests ds (suc (total top)) bottom); lowest = λ w b. passes-below ds (suc (total top)) bottom w (zeros-below (length top) w) b }
+solved ds top a =
+    record {
+      marking = x;
+      size = e;
+      meets = go (rests ds (suc (total top)) bottom);
+      lowest = λ w b. passes-below ds (suc (total top)) bottom w (zeros-below (length top) w) b;
+    }
   where
     bottom : List ℕ
     bottom = replicate (length top) 0
