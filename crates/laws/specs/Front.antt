@@ -1,6 +1,6 @@
 -- The first 13,063 bytes decide. By the limits the sections end at place 13,062 at the latest, so a longer file is refused by its bytes before that
 -- place, or because bytes follow the commands.
-use mathlib.Core.Path.{_≡_, refl, sym, _∙_}
+use mathlib.Core.Path.{_≡_, refl, sym, ap, _∙_}
 use mathlib.Core.Bool.{Bool, true, false}
 use Prim.Native.Nat.{ℕ, zero, suc, _+_, _*_, _≤_, _<_}
 use native.Mathlib.Decide.{decLe}
@@ -15,9 +15,10 @@ use Rattle.rules.specs.declared.Section.{Section}
 use Rattle.rules.specs.declared.Section.the-variants.{Types, Homes, Exprs, Commands}
 use Rattle.rules.specs.Basic.{byte, half, Verdict, fine, refused, guard}
 use Rattle.rules.specs.Reading.{rowBytes, fewest, most, rowGood, rows, section, reading}
-use Rattle.rules.specs.Calls.{formed}
+use Rattle.rules.specs.Calls.{formed, judged, checking, Left, inferable, Inferred, left, marked, runnable, running}
+use Rattle.rules.specs.Tested.{refused-fine}
 use Rattle.rules.specs.Tests.{false-true, in-range}
-use Rattle.laws.specs.Promises.{FirstBytes}
+use Rattle.laws.specs.Promises.{FirstBytes, SameCalls, FirstBytesDecide}
 use Rattle.laws.specs.Read.{WellRead, reading-fine}
 
 guard-same : {X : Type 0} (n p : ℕ) (b c : Bool) (go go′ : Unit {0} → Verdict X) → b ≡ c → (b ≡ true → go tt ≡ go′ tt) → guard n p b go ≡ guard n p c go′
@@ -82,22 +83,49 @@ module _ {s z : List ℕ} (x : Long s z) where
 read-short : {s : List ℕ} {at : Starts} → WellRead s at → length s ≤ 13062
 read-short y = omega (arith, y .atTypes, y .atHomes, y .atExprs, y .atCommands, y .end, y .types .high, y .homes .high, y .exprs .high, y .commands .high)
 
+-- A file is all there in its first n bytes, or both are refused, and alike.
+data Cut (s z : List ℕ) : Type 0 where
+  whole : z ≡ s → Cut s z
+  refusedBoth : {number place : ℕ} → formed s ≡ refused number place → formed z ≡ refused number place → Cut s z
+
 module _ (n : ℕ) (s : List ℕ) (far : 13062 < n) where
-  cut : 13062 < length s → Long s (take n s)
-  cut l = record { first = l; second = rw (length-take n s) (omega arith); agree = λ i k. sym (getD-take n s i 0 (omega arith)) }
+  agreeing : 13062 < length s → Long s (take n s)
+  agreeing l = record { first = l; second = rw (length-take n s) (omega arith); agree = λ i k. sym (getD-take n s i 0 (omega arith)) }
 
-  -- A file that is too long is refused, by what both have.
-  refused-both : 13062 < length s → (v : Verdict Starts) → reading s ≡ v → reading (take n s) ≡ v → formed s ≡ formed (take n s)
+  too-long : 13062 < length s → (v : Verdict Starts) → reading s ≡ v → reading (take n s) ≡ v → Cut s (take n s)
   unfolding formed
-  refused-both l (fine at) e f = absurd (omega (arith, read-short (reading-fine s at e)))
-  refused-both l (refused number place) e f = rw (e, f)
+  too-long l (fine at) e f = absurd (omega (arith, read-short (reading-fine s at e)))
+  too-long l (refused number place) e f = refusedBoth {number = number} {place = place} (rw e) (rw f)
 
-  front : formed s ≡ formed (take n s)
-  front =
+  cut : Cut s (take n s)
+  cut =
       elim (decLe (length s) 13062) [
-        | yes l ↦ rw (take-all n s (omega arith))
-        | no k ↦ let l : 13062 < length s = omega arith in refused-both l (reading s) refl (sym (reading-agree (cut l)))
+        | yes l ↦ whole (take-all n s (omega arith))
+        | no k ↦ let l : 13062 < length s = omega arith in too-long l (reading s) refl (sym (reading-agree (agreeing l)))
       ]
 
+module _ {s z : List ℕ} where
+  same-reading : Cut s z → formed s ≡ formed z
+  same-reading (whole e) = ap formed (sym e)
+  same-reading (refusedBoth e f) = e ∙ sym f
+
+  same-calls : Cut s z → SameCalls s z
+  unfolding judged checking inferable runnable running
+  same-calls (whole e) = rw e (record { checks = λ m. refl; infers = λ lent x. ((λ y. y), (λ y. y)); runs = λ m fuel lent. refl })
+  same-calls (refusedBoth {number = number} {place = place} e f) =
+      record {
+        checks = λ m. rw (e, f);
+        infers = λ lent x. (again lent x (rw e) (rw f), again lent x (rw f) (rw e));
+        runs = λ m fuel lent. rw (e, f);
+      }
+    where
+      again : {a b : List ℕ} (lent : List ℕ) (x : Left (Unit {0})) → inferable a lent ≡ refused number place → inferable b lent ≡ refused number place
+          → Inferred a lent x → Inferred b lent x
+      again lent x p q (left {n = k} {p = l} h) = left (q ∙ sym p ∙ h)
+      again lent x p q (marked h y) = refused-fine (sym p ∙ h)
+
 pub first-bytes : FirstBytes
-first-bytes s = front 13063 s (lit< tt)
+first-bytes s = same-reading (cut 13063 s (lit< tt))
+
+pub first-bytes-decide : FirstBytesDecide
+first-bytes-decide s = same-calls (cut 13063 s (lit< tt))

@@ -13,7 +13,7 @@ use Rattle.rules.specs.declared.CheckAnswer.{CheckAnswer}
 use Rattle.rules.specs.declared.InferAnswer.{InferAnswer}
 use Rattle.rules.specs.declared.RunAnswer.{RunAnswer}
 use Rattle.rules.specs.Basic.{byte, width, fine}
-use Rattle.rules.specs.Table.{Routine, routine}
+use Rattle.rules.specs.Table.{Routine, routine, null}
 use Rattle.rules.specs.Kinds.{Kind, SAFE, kind, notSafe, sameBelow, same, typeKind, exprKind, commandKind, Acceptable}
 use Rattle.rules.specs.Shape.{homeAt, typeOf, exprShaped, commandShaped}
 use Rattle.rules.specs.Least.{Least}
@@ -23,7 +23,7 @@ use Rattle.rules.specs.Ruled.{Check, check2, gives, fails}
 use Rattle.rules.specs.Values.{convert, reach, moved}
 use Rattle.rules.specs.Run.{Stop, noFuel, failed, noRule, Ran, done, halted, start, run}
 use Rattle.rules.specs.Valid.{Real, InHome, Valid, ValidState}
-use Rattle.rules.specs.Calls.{formed, judged, cellCount, outOfFuel, endingOf, stateOf, Left, Ended as Report, Inferred, running, readSays, checkSays, inferSays, runSays}
+use Rattle.rules.specs.Calls.{formed, judged, cellCount, outOfFuel, endingOf, stateOf, Left, Ended as Report, Inferred, checking, running, readSays, checkSays, inferSays, runSays}
 use Rattle.laws.specs.Formed.{Fits, CommandFits}
 use Rattle.laws.specs.Graph.{Meets, Each, demands}
 
@@ -197,6 +197,8 @@ pub record Facts (r : Routine) (m : List ℕ) : Type 0 where
   -- An operand comes earlier and is in range, is int or a reference as its row needs, and the row keeps the kind rule.
   pub exprs : (e : ℕ) → e < r .exprs → Fits r e (r .expr e) × (exprShaped r (r .expr e) ≡ true) × (exprKind r m (r .expr e) ≡ true)
   pub commands : (c : ℕ) → c < r .commands → CommandFits r c (r .command c) × (commandShaped r (r .command c) ≡ true) × (commandKind r m (r .command c) ≡ true)
+  -- A null has a reference type.
+  pub nulls : (e t : ℕ) → e < r .exprs → r .expr e ≡ null t → 0 < t
   -- The type of a row is one that there is.
   pub typed : (e : ℕ) → e < r .exprs → typeOf r e ≤ r .types
   -- There is a body.
@@ -216,6 +218,15 @@ pub record Lossless : Type 0 where
 
 -- ---- reading
 
--- The first 13,063 bytes decide.
+-- The first 13,063 bytes decide what is read,
 abbrev pub FirstBytes : Type 0
 FirstBytes = (s : List ℕ) → formed s ≡ formed (take 13063 s)
+
+-- and with it what each call answers, and each lent entry afterwards.
+pub record SameCalls (s z : List ℕ) : Type 0 where
+  pub checks : (m : List ℕ) → checking s m ≡ checking z m
+  pub infers : (lent : List ℕ) (x : Left (Unit {0})) → (Inferred s lent x → Inferred z lent x) × (Inferred z lent x → Inferred s lent x)
+  pub runs : (m : List ℕ) (fuel : ℕ) (lent : List ℕ) → running s m fuel lent ≡ running z m fuel lent
+
+abbrev pub FirstBytesDecide : Type 0
+FirstBytesDecide = (s : List ℕ) → SameCalls s (take 13063 s)

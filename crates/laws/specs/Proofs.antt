@@ -1,4 +1,4 @@
--- The promises, proved. `FirstBytes` is proved in `Front`, `Alone` in `Lent`, `Lossless` in `Answers`.
+-- The promises, proved. `FirstBytes` and `FirstBytesDecide` are proved in `Front`, `Alone` in `Lent`, `Lossless` in `Answers`.
 use mathlib.Core.Bool.{Bool, true, false}
 use Rattle.rules.specs.declared.Value.{Value}
 use Rattle.rules.specs.declared.Value.the-variants.{Number, Pair}
@@ -33,7 +33,7 @@ use Rattle.laws.specs.Sound.{exec-ok}
 use Rattle.laws.specs.Units.{exec-spends}
 use Rattle.laws.specs.Prefix.{exec-longer}
 use Rattle.laws.specs.Start.{length-start, start-laid, start-ok}
-use Rattle.laws.specs.Read.{fine-same, fine-again, formed-fine, judged-fine, acceptable-judged}
+use Rattle.laws.specs.Read.{fine-same, fine-again, formed-read, null-ref, formed-fine, judged-fine, acceptable-judged}
 use Rattle.laws.specs.Same.{reflexive, symmetric, trans, same-kind, same-bound}
 use Rattle.laws.specs.Dynamic.{all-acceptable}
 use Rattle.laws.specs.Least.{acceptable-meets, meets-acceptable, least-exists, least-unique}
@@ -188,6 +188,7 @@ rows s m at b j =
       homes = λ g y. f .homed y;
       exprs = λ e l. (f .exprs e l .0, f .exprs e l .1, a .exprs e l);
       commands = λ c l. (f .commands c l .0, f .commands c l .1, a .commands c l);
+      nulls = λ e t l q. null-ref (formed-read (judged-fine s m j .0)) e t l q;
       typed = λ e l. type-le f e l;
       body = f .some;
     }
