@@ -43,6 +43,17 @@ data Agree (n : ℕ) : State → State → Type 0 where
 
 -- ---- rules for values go by the homes alone, but for the cell that is read
 
+-- A pointer's kind, and where it is DYNAMIC its target's.
+by-kinds : (P : Kind → Kind → Type 0) → ((t : Kind) → P int t) → ((t : Kind) → P SAFE t) → ((t : Kind) → P SEQ t) → P DYNAMIC int → P DYNAMIC SAFE → P DYNAMIC SEQ
+    → P DYNAMIC DYNAMIC → (k t : Kind) → P k t
+by-kinds P i s q a b c d int t = i t
+by-kinds P i s q a b c d SAFE t = s t
+by-kinds P i s q a b c d SEQ t = q t
+by-kinds P i s q a b c d DYNAMIC int = a
+by-kinds P i s q a b c d DYNAMIC SAFE = b
+by-kinds P i s q a b c d DYNAMIC SEQ = c
+by-kinds P i s q a b c d DYNAMIC DYNAMIC = d
+
 -- An address among the first n cells, if any.
 data Near (n : ℕ) : Ruled ℕ → Type 0 where
   near : {a : ℕ} → a - 1 < n → Near n (gives a)
@@ -85,22 +96,10 @@ module _ (hs : List Home) (a b : List ℕ) where
   reach-same DYNAMIC (Pair (suc g) n) = ap (λ u. must check2 (ltb n (size (over hs a) (suc g))) u) (safe-same (Number (address (over hs a) (suc g) n)))
 
   fetched-same : (k t : Kind) (v : Value) → fetched (over hs a) k t v ≡ fetched (over hs b) k t v
-  fetched-same int t v = refl
-  fetched-same SAFE t v = refl
-  fetched-same SEQ t v = refl
-  fetched-same DYNAMIC int v = convert-same int v
-  fetched-same DYNAMIC SAFE v = refl
-  fetched-same DYNAMIC SEQ v = refl
-  fetched-same DYNAMIC DYNAMIC v = refl
+  fetched-same k t v = by-kinds (λ k t. fetched (over hs a) k t v ≡ fetched (over hs b) k t v) (λ t. refl) (λ t. refl) (λ t. refl) (convert-same int v) refl refl refl k t
 
   paired-same : (k t : Kind) (v : Value) → paired (over hs a) k t v ≡ paired (over hs b) k t v
-  paired-same int t v = refl
-  paired-same SAFE t v = refl
-  paired-same SEQ t v = refl
-  paired-same DYNAMIC int v = convert-same DYNAMIC v
-  paired-same DYNAMIC SAFE v = refl
-  paired-same DYNAMIC SEQ v = refl
-  paired-same DYNAMIC DYNAMIC v = refl
+  paired-same k t v = by-kinds (λ k t. paired (over hs a) k t v ≡ paired (over hs b) k t v) (λ t. refl) (λ t. refl) (λ t. refl) (convert-same DYNAMIC v) refl refl refl k t
 
   kept-same : (k t : Kind) (v : Value) → kept (over hs a) k t v ≡ kept (over hs b) k t v
   kept-same k t v = ap (λ u. onward u (λ x. paired (over hs a) k t x)) (convert-same t v) ∙ go (convert (over hs b) t v)
