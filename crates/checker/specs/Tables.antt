@@ -3,7 +3,9 @@ use mathlib.Core.Path.{_≡_}
 use Prim.Native.Nat.{ℕ, zero, suc, _≤_, _<_}
 use mathlib.Core.List.{List}
 use lib.ListN.{getD}
-use Rattle.rules.specs.Table.{Routine}
+use Rattle.rules.specs.Table.{Routine, exprOf, commandOf}
+use Rattle.rules.specs.Shape.{typeOf}
+use Rattle.laws.specs.Formed.{Formed}
 use Rattle.rules.specs.Kinds.{Kind, int, SAFE, SEQ, DYNAMIC, kind}
 
 -- A kind by its number in a table: 0 int, 1 SAFE, 2 SEQ, 3 DYNAMIC.
@@ -28,3 +30,37 @@ pub record TwoTypes (targets kinds : List ℕ) (t u : ℕ) : Type 0 where
   pub tables : TypeTables routine marking targets kinds
   pub first : t ≤ routine .types
   pub second : u ≤ routine .types
+
+-- One type of it.
+pub record OneType (targets kinds : List ℕ) (t : ℕ) : Type 0 where
+  pub routine : Routine
+  pub marking : List ℕ
+  pub tables : TypeTables routine marking targets kinds
+  pub up : 1 ≤ t
+  pub last : t ≤ routine .types
+
+-- All its n types.
+pub record AllTypes (targets kinds : List ℕ) (n : ℕ) : Type 0 where
+  pub routine : Routine
+  pub marking : List ℕ
+  pub tables : TypeTables routine marking targets kinds
+  pub count : n ≡ routine .types
+
+-- A well-formed routine, the types of its expressions, and one of its rows.
+pub record RowTables (types targets kinds : List ℕ) : Type 0 where
+  pub routine : Routine
+  pub marking : List ℕ
+  pub formed : Formed routine
+  pub tables : TypeTables routine marking targets kinds
+  pub few : routine .exprs ≤ 1024
+  pub typed : (e : ℕ) → e < routine .exprs → getD types e 0 ≡ typeOf routine e
+
+pub record ExprGiven (types targets kinds : List ℕ) (e tag a b : ℕ) : Type 0 where
+  pub rows : RowTables types targets kinds
+  pub number : e < rows .routine .exprs
+  pub row : exprOf tag a b ≡ rows .routine .expr e
+
+pub record CommandGiven (types targets kinds : List ℕ) (c tag a b d : ℕ) : Type 0 where
+  pub rows : RowTables types targets kinds
+  pub number : c < rows .routine .commands
+  pub row : commandOf tag a b d ≡ rows .routine .command c

@@ -1,9 +1,12 @@
 // The checker: whether a marking is acceptable, refusals 7 and 8.
 ghost use mathlib.Core.Path.{_≡_};
-ghost use Prim.Native.Nat.{ℕ, _≤_, _<_};
+ghost use Prim.Native.Nat.{ℕ, suc, _≤_, _<_};
 ghost use lib.ListN.{length, getD};
-ghost use Rattle.rules.specs.Kinds.{kindConverts, targetsMatter};
-ghost use Rattle.checker.specs.Tables.{kindBy, TwoTypes};
+ghost use lib.Dec.{leb};
+ghost use Rattle.rules.specs.Kinds.{kindConverts, targetsMatter, typeKind, exprKind, commandKind};
+ghost use Rattle.rules.specs.Table.{exprOf, commandOf};
+ghost use Rattle.checker.specs.Tables.{kindBy, TwoTypes, OneType, AllTypes, ExprGiven, CommandGiven};
+ghost use Rattle.checker.specs.First.{FirstBad};
 
 // Whether types t and u are equal. Their targets are compared by this function again: targets fall.
 pub fn same(targets: &[u8; 256], kinds: &[u8; 256], t: u8, u: u8) -> bool
@@ -89,4 +92,105 @@ fn spreads(a: u8, b: u8) -> bool
         return true;
     }
     b == 3
+}
+
+// The index of the first byte that is no kind, or the marking's length.
+fn bad_byte(marking: &[u8]) -> usize
+    ensures { λ r. ⌜ FirstBad (λ i. leb (getD (now (marking .entry)) i 0) 2) (length (now (marking .entry))) r ⌝ }
+{
+    let mut i = 0;
+    while i < marking.len() {
+        if 2 < marking[i] {
+            return i;
+        }
+        i += 1;
+    }
+    i
+}
+
+// The kind of type t.
+fn kind_of(kinds: &[u8; 256], t: u8) -> u8
+    ensures { λ r. ⌜ (r ≡ getD (now (kinds .entry)) t 0) × (t < 256) ⌝ }
+{
+    kinds[t as usize]
+}
+
+// Whether type t keeps the rule for type rows.
+fn type_ok(targets: &[u8; 256], kinds: &[u8; 256], t: usize) -> bool
+    requires { ⌜ OneType (now targets) (now kinds) t ⌝ }
+    ensures { λ x. ⌜ ((g : OneType (now (targets .entry)) (now (kinds .entry)) t) → x ≡ typeKind (g .routine) (g .marking) t) ⌝ }
+{
+    let k = kinds[t];
+    let l = kind_of(kinds, targets[t]);
+    spreads(k, l)
+}
+
+// The index from 0 of the first of n type rows that breaks its rule, or n.
+fn bad_type(targets: &[u8; 256], kinds: &[u8; 256], n: usize) -> usize
+    requires { ⌜ AllTypes (now targets) (now kinds) n ⌝ }
+    ensures { λ r. ⌜ ((g : AllTypes (now (targets .entry)) (now (kinds .entry)) n) → FirstBad (λ i. typeKind (g .routine) (g .marking) (suc i)) n r) ⌝ }
+{
+    let mut i = 0;
+    while i < n {
+        if !type_ok(targets, kinds, i + 1) {
+            return i;
+        }
+        i += 1;
+    }
+    i
+}
+
+// A type's number, which is below 256.
+fn narrow(t: u16) -> u8
+    requires { ⌜ t < 256 ⌝ }
+    ensures { λ r. ⌜ r ≡ t ⌝ }
+{
+    t as u8
+}
+
+// Whether an expression row keeps its rule: the a of a sum is not SAFE, and a cast converts.
+fn expr_ok(
+    types: &[u16; 1024],
+    targets: &[u8; 256],
+    kinds: &[u8; 256],
+    e: usize,
+    tag: u8,
+    a: u16,
+    b: u16,
+) -> bool
+    requires { ⌜ ExprGiven (now types) (now targets) (now kinds) e tag a b ⌝ }
+    ensures { λ x. ⌜ ((g : ExprGiven (now (types .entry)) (now (targets .entry)) (now (kinds .entry)) e tag a b) → x ≡ exprKind (g .rows .routine) (g .rows .marking) (exprOf tag a b)) ⌝ }
+{
+    if tag == 3 {
+        let from = types[a as usize];
+        return converts(targets, kinds, narrow(from), narrow(b));
+    }
+    if tag == 5 {
+        let of = types[a as usize];
+        return 2 <= kind_of(kinds, narrow(of));
+    }
+    true
+}
+
+// Whether a command row keeps its rule: a store's value converts to the target of the pointer's type.
+fn command_ok(
+    types: &[u16; 1024],
+    targets: &[u8; 256],
+    kinds: &[u8; 256],
+    c: usize,
+    tag: u8,
+    a: u16,
+    b: u16,
+    d: u16,
+) -> bool
+    requires { ⌜ CommandGiven (now types) (now targets) (now kinds) c tag a b d ⌝ }
+    ensures { λ x. ⌜ ((g : CommandGiven (now (types .entry)) (now (targets .entry)) (now (kinds .entry)) c tag a b d) → x ≡ commandKind (g .rows .routine) (g .rows .marking) (commandOf tag a b d)) ⌝ }
+{
+    if tag == 2 {
+        let pointer = types[a as usize];
+        let value = types[b as usize];
+        let to = targets[pointer as usize];
+        return converts(targets, kinds, narrow(value), to);
+    }
+    true
 }
