@@ -14,7 +14,7 @@ use Rattle.rules.specs.Kinds.{Kind, int, SAFE, SEQ, DYNAMIC, kind, notSafe, con
 use Rattle.rules.specs.Tests.{parts-true, by-test}
 use Rattle.laws.specs.Formed.{Fits, CommandFits, Formed, ref-type, type-le}
 use Rattle.laws.specs.Values.{target-le}
-use Rattle.checker.specs.Tables.{kindBy, TypeTables, TwoTypes, OneType, RowTables, ExprGiven, CommandGiven}
+use Rattle.checker.specs.Tables.{kindBy, TypeTables, TwoTypes, OneType, AllTypes, RowTables, ExprGiven, CommandGiven}
 use Rattle.checker.proofs.KindLaws.{lower}
 
 -- ---- a type row
@@ -166,3 +166,12 @@ module _ {Y T K : List ℕ} {c tag a b d : ℕ} (g : CommandGiven Y T K c tag a 
       = g .rows .tables .target (getD Y a 0) pointer-up (typed-in (g .rows) a (store-fits .0)) ∙ ap (r .target) (g .rows .typed a (store-fits .0)) in
       h (store-types i) ∙ ap (λ n. converts r m n (getD T (getD Y a 0) 0)) k ∙ ap (converts r m (typeOf r b)) l
       ∙ ap (λ n. commandKind r m (commandOf n a b d)) (sym t)
+
+-- ---- searches
+
+abbrev pub one-of : {T K : List ℕ} {n i : ℕ} → AllTypes T K n → i < n → OneType T K (i + 1)
+one-of g l = record { routine = g .routine; marking = g .marking; tables = g .tables; up = omega arith; last = omega (arith, g .count) }
+
+pub type-says : {T K : List ℕ} {n i : ℕ} {x y : Bool} (g : AllTypes T K n) (l : i < n)
+    → ((h : OneType T K (i + 1)) → x ≡ typeKind (h .routine) (h .marking) (i + 1)) → x ≡ y → typeKind (g .routine) (g .marking) (suc i) ≡ y
+type-says {i = i} g l h e = let p : suc i ≡ i + 1 = omega arith in ap (typeKind (g .routine) (g .marking)) p ∙ sym (h (one-of g l)) ∙ e
