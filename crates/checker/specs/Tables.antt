@@ -2,7 +2,7 @@
 use mathlib.Core.Path.{_≡_}
 use Prim.Native.Nat.{ℕ, zero, suc, _≤_, _<_}
 use mathlib.Core.List.{List}
-use lib.ListN.{getD}
+use lib.ListN.{getD, length}
 use Rattle.rules.specs.Table.{Routine, exprOf, commandOf}
 use Rattle.rules.specs.Shape.{typeOf}
 use Rattle.laws.specs.Formed.{Formed}
@@ -64,3 +64,14 @@ pub record CommandGiven (types targets kinds : List ℕ) (c tag a b d : ℕ) : T
   pub rows : RowTables types targets kinds
   pub number : c < rows .routine .commands
   pub row : commandOf tag a b d ≡ rows .routine .command c
+
+-- A marking whose bytes are kinds.
+pub record Marked (m : List ℕ) : Type 0 where
+  pub few : length m ≤ 255
+  pub bytes : (i : ℕ) → i < length m → getD m i 0 ≤ 2
+
+-- Entries 0 to n of a table of kinds.
+pub record KindsOf (m : List ℕ) (n : ℕ) (kinds : List ℕ) : Type 0 where
+  pub size : length kinds ≡ 256
+  pub small : (t : ℕ) → t ≤ n → getD kinds t 0 < 4
+  pub kindAt : (t : ℕ) → t ≤ n → kindBy (getD kinds t 0) ≡ kind m t

@@ -1,11 +1,19 @@
 // The checker: whether a marking is acceptable, refusals 7 and 8.
+use rules::Starts;
+use view::expr_row;
+use view::command_row;
+use view::type_row;
+use view::row_counts;
 ghost use mathlib.Core.Path.{_≡_};
 ghost use Prim.Native.Nat.{ℕ, suc, _≤_, _<_};
 ghost use lib.ListN.{length, getD};
 ghost use lib.Dec.{leb};
 ghost use Rattle.rules.specs.Kinds.{kindConverts, targetsMatter, typeKind, exprKind, commandKind};
-ghost use Rattle.rules.specs.Table.{exprOf, commandOf};
-ghost use Rattle.checker.specs.Tables.{kindBy, TwoTypes, OneType, AllTypes, ExprGiven, CommandGiven};
+ghost use Rattle.rules.specs.Basic.{half};
+ghost use Rattle.rules.specs.Table.{exprOf, commandOf, routine};
+ghost use Rattle.view.specs.WellRead.{WellRead};
+ghost use Rattle.checker.specs.Judge.{Rows, Targets};
+ghost use Rattle.checker.specs.Tables.{kindBy, TwoTypes, OneType, AllTypes, ExprGiven, CommandGiven, Marked, KindsOf};
 ghost use Rattle.checker.specs.First.{FirstBad};
 
 // Whether types t and u are equal. Their targets are compared by this function again: targets fall.
@@ -193,4 +201,76 @@ fn command_ok(
         return converts(targets, kinds, narrow(value), to);
     }
     true
+}
+
+// The index of the first of n expression rows that breaks its rule, or n.
+fn bad_expr(
+    file: &[u8],
+    at: Starts,
+    types: &[u16; 1024],
+    targets: &[u8; 256],
+    kinds: &[u8; 256],
+    n: usize,
+) -> usize
+    requires { ⌜ Rows (now file) at (now types) (now targets) (now kinds) n (half (now file) (at .exprs)) ⌝ }
+    ensures { λ r. ⌜ ((g : Rows (now (file .entry)) at (now (types .entry)) (now (targets .entry)) (now (kinds .entry)) n (half (now (file .entry)) (at .exprs))) → FirstBad (λ e. exprKind (routine (now (file .entry)) at) (g .marked .marking) (routine (now (file .entry)) at .expr e)) n r) ⌝ }
+{
+    let mut i = 0;
+    while i < n {
+        let row = expr_row(file, at, i);
+        if !expr_ok(types, targets, kinds, i, row.tag, row.a, row.b) {
+            return i;
+        }
+        i += 1;
+    }
+    i
+}
+
+// The index of the first of n command rows that breaks its rule, or n.
+fn bad_command(
+    file: &[u8],
+    at: Starts,
+    types: &[u16; 1024],
+    targets: &[u8; 256],
+    kinds: &[u8; 256],
+    n: usize,
+) -> usize
+    requires { ⌜ Rows (now file) at (now types) (now targets) (now kinds) n (half (now file) (at .commands)) ⌝ }
+    ensures { λ r. ⌜ ((g : Rows (now (file .entry)) at (now (types .entry)) (now (targets .entry)) (now (kinds .entry)) n (half (now (file .entry)) (at .commands))) → FirstBad (λ c. commandKind (routine (now (file .entry)) at) (g .marked .marking) (routine (now (file .entry)) at .command c)) n r) ⌝ }
+{
+    let mut i = 0;
+    while i < n {
+        let row = command_row(file, at, i);
+        if !command_ok(types, targets, kinds, i, row.tag, row.a, row.b, row.c) {
+            return i;
+        }
+        i += 1;
+    }
+    i
+}
+
+// The targets of a file's n types, each at its type's number.
+pub fn fill_targets(file: &[u8], at: Starts, n: usize, targets: &mut [u8; 256])
+    requires { ⌜ WellRead (now file) at × (n ≡ half (now file) (at .types)) × (length (now targets) ≡ 256) ⌝ }
+    ensures { λ _. ⌜ Targets (routine (now (file .entry)) at) n (now (targets .exit)) × (length (now (targets .exit)) ≡ 256) ⌝ }
+{
+    let mut t: usize = 1;
+    while t <= n {
+        let row = type_row(file, at, t);
+        targets[t] = narrow(row.target);
+        t += 1;
+    }
+}
+
+// The kinds of a marking's types, each at its type's number.
+pub fn fill_kinds(marking: &[u8], kinds: &mut [u8; 256])
+    requires { ⌜ Marked (now marking) × (length (now kinds) ≡ 256) × (getD (now kinds) 0 0 ≡ 0) ⌝ }
+    ensures { λ _. ⌜ KindsOf (now (marking .entry)) (length (now (marking .entry))) (now (kinds .exit)) ⌝ }
+{
+    let n = marking.len();
+    let mut i: usize = 0;
+    while i < n {
+        kinds[i + 1] = marking[i] + 1;
+        i += 1;
+    }
 }
