@@ -9,8 +9,7 @@ use lib.ListN.{getD}
 use lib.Dec.{eqb}
 use Rattle.rules.specs.Basic.{choose}
 use Rattle.rules.specs.Table.{Routine}
-use Rattle.rules.specs.Kinds.{Kind, int, SAFE, SEQ, DYNAMIC, kind, sameKind, deep, sameBelow, same, kindConverts, targetsMatter, converts, spreads}
-use Rattle.rules.specs.Tests.{by-test}
+use Rattle.rules.specs.Kinds.{Kind, int, SAFE, SEQ, DYNAMIC, kind, sameKind, deep, same, kindConverts, targetsMatter, converts, spreads}
 use Rattle.laws.specs.Same.{sameKind-eq, sameKind-refl, same-depth}
 use Rattle.checker.specs.Tables.{kindBy, TypeTables, TwoTypes}
 

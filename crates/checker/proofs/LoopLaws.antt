@@ -20,7 +20,7 @@ use Rattle.view.specs.declared.CommandRow.{CommandRow}
 use Rattle.view.specs.WellRead.{WellRead}
 use Rattle.view.specs.Rows.{typeRow, exprRow, commandRow, ExprAsked, CommandAsked, TypeAsked}
 use Rattle.checker.specs.Tables.{kindBy, RowTables, ExprGiven, CommandGiven, Marked, KindsOf}
-use Rattle.checker.specs.Judge.{TypedFile, MarkedFile, Rows, Targets}
+use Rattle.checker.specs.Judge.{MarkedFile, Rows, Targets}
 
 abbrev pub rows-of : {s : List ℕ} {at : Starts} {Y T K : List ℕ} → MarkedFile s at Y T K → RowTables Y T K
 rows-of {s} {at} g =

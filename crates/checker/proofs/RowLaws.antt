@@ -1,20 +1,18 @@
 -- A row's rule by the tables: one law for each way out, and what makes each table entry it reads be there.
 use mathlib.Core.Path.{_≡_, refl, sym, ap, _∙_}
-use mathlib.Core.Bool.{Bool, true, false}
+use mathlib.Core.Bool.{Bool, true}
 use Prim.Native.Nat.{ℕ, zero, suc, _+_, _*_, _-_, _≤_, _<_}
-use native.Mathlib.Nat.{not-suc-le-zero}
 use native.Mathlib.Omega.{arith}
 use mathlib.Core.List.{List, [], _∷_}
 use lib.ListN.{getD}
 use lib.Dec.{ltb, leb}
 use borrow.Author.Tests.{le-leb}
-use Rattle.rules.specs.Table.{Expr, Command, Routine, operatorOf, exprOf, commandOf, literal, home, cast, null, sum, read, op, skip, seq, store, ifElse, while}
-use Rattle.rules.specs.Shape.{typeOf, isRef, isInt, exprShaped, commandShaped}
-use Rattle.rules.specs.Kinds.{Kind, int, SAFE, SEQ, DYNAMIC, kind, notSafe, converts, spreads, typeKind, exprKind, commandKind}
-use Rattle.rules.specs.Tests.{parts-true, by-test}
-use Rattle.laws.specs.Formed.{Fits, CommandFits, Formed, ref-type, type-le}
-use Rattle.laws.specs.Values.{target-le}
-use Rattle.checker.specs.Tables.{kindBy, TypeTables, TwoTypes, OneType, AllTypes, RowTables, ExprGiven, CommandGiven}
+use Rattle.rules.specs.Table.{Expr, Command, Routine, operatorOf, exprOf, commandOf, literal, home, cast, null, sum, read, op, store}
+use Rattle.rules.specs.Shape.{typeOf, isRef}
+use Rattle.rules.specs.Kinds.{kind, notSafe, converts, spreads, typeKind, exprKind, commandKind}
+use Rattle.rules.specs.Tests.{by-test}
+use Rattle.laws.specs.Formed.{ref-type, type-le}
+use Rattle.checker.specs.Tables.{kindBy, TwoTypes, OneType, AllTypes, RowTables, ExprGiven, CommandGiven}
 use Rattle.checker.proofs.KindLaws.{lower}
 
 -- ---- a type row

@@ -2,7 +2,7 @@
 use mathlib.Core.Path.{_≡_}
 use Prim.Native.Nat.{ℕ, suc, _≤_, _<_}
 use mathlib.Core.List.{List}
-use lib.ListN.{getD, length}
+use lib.ListN.{getD}
 use Rattle.rules.specs.declared.Starts.{Starts}
 use Rattle.rules.specs.Basic.{Verdict, fine, firstBad}
 use Rattle.rules.specs.Table.{Routine, routine}

@@ -1,18 +1,23 @@
 // The checker: whether a marking is acceptable, refusals 7 and 8.
+use rules::ReadAnswer;
+use rules::Refusal;
 use rules::Starts;
-use view::expr_row;
+use view::Counts;
 use view::command_row;
-use view::type_row;
+use view::expr_row;
 use view::row_counts;
+use view::type_row;
 ghost use mathlib.Core.Path.{_≡_};
-ghost use Prim.Native.Nat.{ℕ, suc, _≤_, _<_};
+ghost use Prim.Native.Nat.{ℕ, suc, _+_, _*_, _≤_, _<_};
 ghost use lib.ListN.{length, getD};
 ghost use lib.Dec.{leb};
-ghost use Rattle.rules.specs.Kinds.{kindConverts, targetsMatter, typeKind, exprKind, commandKind};
-ghost use Rattle.rules.specs.Basic.{half};
+ghost use Rattle.rules.specs.Kinds.{kinds, kindConverts, targetsMatter, typeKind, exprKind, commandKind};
+ghost use Rattle.rules.specs.Basic.{half, fine};
+ghost use Rattle.rules.specs.Calls.{readSays};
 ghost use Rattle.rules.specs.Table.{exprOf, commandOf, routine};
 ghost use Rattle.view.specs.WellRead.{WellRead};
-ghost use Rattle.checker.specs.Judge.{Rows, Targets};
+ghost use Rattle.view.specs.Rows.{countsOf};
+ghost use Rattle.checker.specs.Judge.{TypedFile, MarkedFile, Rows, Targets, breaking};
 ghost use Rattle.checker.specs.Tables.{kindBy, TwoTypes, OneType, AllTypes, ExprGiven, CommandGiven, Marked, KindsOf};
 ghost use Rattle.checker.specs.First.{FirstBad};
 
@@ -273,4 +278,93 @@ pub fn fill_kinds(marking: &[u8], kinds: &mut [u8; 256])
         kinds[i + 1] = marking[i] + 1;
         i += 1;
     }
+}
+
+// The places of a type row, by its index from 0, of an expression row and of a command row.
+fn type_place(at: Starts, i: usize) -> u32
+    requires { ⌜ (at .types ≤ 30000) × (i ≤ 1024) ⌝ }
+    ensures { λ r. ⌜ r ≡ at .types + 2 + 2 * i ⌝ }
+{
+    at.types + 2 + 2 * (i as u32)
+}
+
+fn expr_place(at: Starts, e: usize) -> u32
+    requires { ⌜ (at .exprs ≤ 30000) × (e ≤ 1024) ⌝ }
+    ensures { λ r. ⌜ r ≡ at .exprs + 2 + 5 * e ⌝ }
+{
+    at.exprs + 2 + 5 * (e as u32)
+}
+
+fn command_place(at: Starts, c: usize) -> u32
+    requires { ⌜ (at .commands ≤ 30000) × (c ≤ 1024) ⌝ }
+    ensures { λ r. ⌜ r ≡ at .commands + 2 + 7 * c ⌝ }
+{
+    at.commands + 2 + 7 * (c as u32)
+}
+
+fn refuse(number: u32, place: u32) -> ReadAnswer
+    ensures { λ r. ⌜ r ≡ ReadAnswer.Refused (record { number = number; place = place }) ⌝ }
+{
+    ReadAnswer::Refused(Refusal { number, place })
+}
+
+fn wide(n: u16) -> usize
+    ensures { λ r. ⌜ r ≡ n ⌝ }
+{
+    n as usize
+}
+
+// Refusal 8, over types, expressions, commands, of which there are so many.
+fn judge_rows(
+    file: &[u8],
+    at: Starts,
+    types: &[u16; 1024],
+    targets: &[u8; 256],
+    kinds: &[u8; 256],
+    n: Counts,
+) -> ReadAnswer
+    requires { ⌜ MarkedFile (now file) at (now types) (now targets) (now kinds) × (n ≡ countsOf (now file) at) ⌝ }
+    ensures { λ r. ⌜ ((g : MarkedFile (now (file .entry)) at (now (types .entry)) (now (targets .entry)) (now (kinds .entry))) → readSays r ≡ breaking (routine (now (file .entry)) at) (g .marking) at) ⌝ }
+{
+    let n_types = wide(n.types);
+    let t = bad_type(targets, kinds, n_types);
+    if t < n_types {
+        return refuse(8, type_place(at, t));
+    }
+    let n_exprs = wide(n.exprs);
+    let e = bad_expr(file, at, types, targets, kinds, n_exprs);
+    if e < n_exprs {
+        return refuse(8, expr_place(at, e));
+    }
+    let n_commands = wide(n.commands);
+    let c = bad_command(file, at, types, targets, kinds, n_commands);
+    if c < n_commands {
+        return refuse(8, command_place(at, c));
+    }
+    ReadAnswer::WellFormed(at)
+}
+
+// Refusals 7 and 8 of a well-formed file.
+pub fn judge(file: &[u8], at: Starts, types: &[u16; 1024], marking: &[u8]) -> ReadAnswer
+    requires { ⌜ TypedFile (now file) at (now types) ⌝ }
+    ensures { λ r. ⌜ readSays r ≡ kinds (routine (now (file .entry)) at) (now (marking .entry)) (λ _. fine at) ⌝ }
+{
+    let counts = row_counts(file, at);
+    let n = wide(counts.types);
+    let given = marking.len();
+    if given < n {
+        return refuse(7, given as u32);
+    }
+    if n < given {
+        return refuse(7, n as u32);
+    }
+    let b = bad_byte(marking);
+    if b < n {
+        return refuse(7, b as u32);
+    }
+    let mut targets = [0u8; 256];
+    let mut kinds = [0u8; 256];
+    fill_targets(file, at, n, &mut targets);
+    fill_kinds(marking, &mut kinds);
+    judge_rows(file, at, types, &targets, &kinds, counts)
 }
