@@ -2,8 +2,10 @@
 use mathlib.Core.Path.{_≡_}
 use Prim.Native.Nat.{ℕ, suc, _≤_, _<_}
 use mathlib.Core.List.{List}
-use lib.ListN.{getD}
+use lib.ListN.{length, getD}
 use Rattle.rules.specs.declared.Starts.{Starts}
+use Rattle.rules.specs.declared.ReadAnswer.{ReadAnswer}
+use Rattle.rules.specs.Calls.{readSays, judged}
 use Rattle.rules.specs.Basic.{Verdict, fine, firstBad}
 use Rattle.rules.specs.Table.{Routine, routine}
 use Rattle.rules.specs.Shape.{typeOf}
@@ -40,3 +42,9 @@ breaking r m at =
 -- The first n entries of a table of targets, from type 1 on.
 pub record Targets (r : Routine) (n : ℕ) (targets : List ℕ) : Type 0 where
   pub each : (t : ℕ) → 1 ≤ t → t ≤ n → getD targets t 0 ≡ r .target t
+
+-- What checking with a table answers, and what the table then has.
+pub record CheckedTyped (s m types : List ℕ) (r : ReadAnswer) : Type 0 where
+  pub answer : readSays r ≡ judged s m
+  pub long : length types ≡ 1024
+  pub typed : (at : Starts) → judged s m ≡ fine at → (e : ℕ) → e < routine s at .exprs → getD types e 0 ≡ typeOf (routine s at) e

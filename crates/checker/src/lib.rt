@@ -1,4 +1,5 @@
 // The checker: whether a marking is acceptable, refusals 7 and 8.
+use rules::CheckAnswer;
 use rules::ReadAnswer;
 use rules::Refusal;
 use rules::Starts;
@@ -13,11 +14,11 @@ ghost use lib.ListN.{length, getD};
 ghost use lib.Dec.{leb};
 ghost use Rattle.rules.specs.Kinds.{kinds, kindConverts, targetsMatter, typeKind, exprKind, commandKind};
 ghost use Rattle.rules.specs.Basic.{half, fine};
-ghost use Rattle.rules.specs.Calls.{readSays};
+ghost use Rattle.rules.specs.Calls.{readSays, checkSays, checking};
 ghost use Rattle.rules.specs.Table.{exprOf, commandOf, routine};
 ghost use Rattle.view.specs.WellRead.{WellRead};
 ghost use Rattle.view.specs.Rows.{countsOf};
-ghost use Rattle.checker.specs.Judge.{TypedFile, MarkedFile, Rows, Targets, breaking};
+ghost use Rattle.checker.specs.Judge.{CheckedTyped, TypedFile, MarkedFile, Rows, Targets, breaking};
 ghost use Rattle.checker.specs.Tables.{kindBy, TwoTypes, OneType, AllTypes, ExprGiven, CommandGiven, Marked, KindsOf};
 ghost use Rattle.checker.specs.First.{FirstBad};
 
@@ -367,4 +368,28 @@ pub fn judge(file: &[u8], at: Starts, types: &[u16; 1024], marking: &[u8]) -> Re
     fill_targets(file, at, n, &mut targets);
     fill_kinds(marking, &mut kinds);
     judge_rows(file, at, types, &targets, &kinds, counts)
+}
+
+// Refusals 1 to 8; and in `types` the types of the expression rows of a file that earns none of 1 to 5.
+pub fn check_typed(file: &[u8], marking: &[u8], types: &mut [u16; 1024]) -> ReadAnswer
+    requires { ⌜ length (now types) ≡ 1024 ⌝ }
+    ensures { λ r. ⌜ CheckedTyped (now (file .entry)) (now (marking .entry)) (now (types .exit)) r ⌝ }
+{
+    let read = reader::read_typed(file, types);
+    let ReadAnswer::WellFormed(at) = read else {
+        return read;
+    };
+    judge(file, at, types, marking)
+}
+
+// Whether a file accepts a marking, or its first refusal.
+pub fn check(file: &[u8], marking: &[u8]) -> CheckAnswer
+    ensures { λ r. ⌜ checkSays r ≡ checking (now (file .entry)) (now (marking .entry)) ⌝ }
+{
+    let mut types = [0u16; 1024];
+    let judged = check_typed(file, marking, &mut types);
+    match judged {
+        ReadAnswer::WellFormed(_) => CheckAnswer::Accepted,
+        ReadAnswer::Refused(r) => CheckAnswer::Refused(r),
+    }
 }
