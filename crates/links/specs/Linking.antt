@@ -2,7 +2,7 @@
 use mathlib.Core.Path.{_≡_, refl, sym, ap, _∙_}
 use mathlib.Core.Logic.{_⊎_, inl, inr}
 use mathlib.Core.Bool.{Bool, true}
-use Prim.Native.Nat.{ℕ, zero, suc, _+_, _≤_, _<_}
+use Prim.Native.Nat.{ℕ, _+_, _≤_, _<_}
 use native.Mathlib.Nat.{not-suc-le-zero, le-trans}
 use native.Mathlib.Decide.{ℕ-discrete, decLt}
 use native.Mathlib.Omega.{arith}
@@ -12,7 +12,7 @@ use lib.Seq.{getD-set-same}
 use Rattle.rules.specs.Kinds.{same}
 use Rattle.laws.specs.Convert.{Spread, byteOf}
 use Rattle.laws.specs.Same.{reflexive, symmetric}
-use Rattle.raise.specs.Marks.{at, AtSet, here, other, at-set, Below, below-same, below-trans, kept, Raised}
+use Rattle.raise.specs.Marks.{at, zeros, AtSet, here, other, at-set, Below, below-same, below-trans, kept, Raised}
 use Rattle.raise.specs.Demands.{Falls, Ref, Tables}
 use Rattle.links.specs.Plain.{plain, Equal, same-equal, dynamic-same, int-alone, spread-at, Lower, same-lower}
 use Rattle.links.specs.Links.{Within, Along, BothDynamic, Down, Good, Next, Stepped, Linked, Turned, Joined}
@@ -329,11 +329,6 @@ pub joined-end : {T F G m₀ : List ℕ} {i k : ℕ} {p m : List ℕ} → i ≤ 
 joined-end {i = i} {k = k} a b j = let e : i ≡ k = omega arith in rw e at j
 
 -- ---- no links yet
-
-pub zeros : (n x : ℕ) → at (replicate n 0) x ≡ 0
-zeros zero x = refl
-zeros (suc n) zero = refl
-zeros (suc n) (suc x) = zeros n x
 
 pub tables-none : (n : ℕ) {k : ℕ} {T : List ℕ} → k < length T → k < n → Falls T → Tables k T (replicate n 0)
 tables-none n a b f =

@@ -4,13 +4,18 @@ use Prim.Native.Nat.{ℕ, zero, suc, _-_, _≤_, _<_}
 use native.Mathlib.Nat.{not-suc-le-zero, le-refl, le-trans}
 use native.Mathlib.Omega.{arith}
 use mathlib.Core.List.{List, [], _∷_}
-use lib.ListN.{length, getD, set, length-set}
+use lib.ListN.{length, getD, set, length-set, replicate}
 use lib.Seq.{getD-set-same}
 use Rattle.laws.specs.Convert.{byteOf}
 
 -- Entry i of a table; 0 past its end.
 abbrev pub at : List ℕ → ℕ → ℕ
 at l i = getD l i 0
+
+pub zeros : (n x : ℕ) → at (replicate n 0) x ≡ 0
+zeros zero x = refl
+zeros (suc n) zero = refl
+zeros (suc n) (suc x) = zeros n x
 
 -- ---- an entry that was set
 

@@ -2,7 +2,8 @@
 use mathlib.Core.Path.{refl}
 use native.Mathlib.Omega.{arith}
 use Rattle.raise.specs.Demands.{lists-size}
-use Rattle.links.specs.Linking.{zeros, tables-none, joined-tables}
+use Rattle.raise.specs.Marks.{zeros}
+use Rattle.links.specs.Linking.{tables-none, joined-tables}
 use Rattle.infer.specs.Rest.{least-above}
 use borrow.Author.Needs.{needs}
 use Rattle.infer.proofs.least_above.Statement.{statement}
