@@ -1,3 +1,4 @@
 pub mod Tables
 pub mod Rest
 pub mod Bridge
+pub mod Marked

@@ -1,7 +1,12 @@
 // The least marking of a routine.
+use rules::Starts;
 ghost use mathlib.Core.Path.{_≡_};
 ghost use Prim.Native.Nat.{ℕ, _≤_, _<_};
 ghost use lib.ListN.{length};
+ghost use Rattle.rules.specs.Basic.{half};
+ghost use Rattle.rules.specs.Table.{routine};
+ghost use Rattle.rules.specs.Least.{Least};
+ghost use Rattle.gather.specs.Rows.{Typed};
 ghost use Rattle.raise.specs.Demands.{Falls, Lists};
 ghost use Rattle.infer.specs.Tables.{LeastAbove};
 
@@ -13,4 +18,18 @@ fn least_above(targets: &[u8], from: &[u8], to: &[u8], m: &mut [u8])
     let mut p = [0u8; 256];
     links::join(targets, from, to, &mut p, m);
     raise::settle(targets, from, to, &p, m);
+}
+
+// Fills a marking, which has one entry for each type, with the least one of a well-formed file.
+pub fn mark(file: &[u8], at: Starts, ty: &[u16; 1024], m: &mut [u8])
+    requires { ⌜ Typed (now file) at (now ty) × (length (now m) ≡ half (now file) (at .types)) ⌝ }
+    ensures { λ _. ⌜ Least (routine (now (file .entry)) at) (now (m .exit)) ⌝ }
+{
+    let mut table = [0u8; 256];
+    let mut from = [0u8; 2048];
+    let mut to = [0u8; 2048];
+    gather::clear(m);
+    gather::targets(file, at, m.len(), &mut table);
+    let n = gather::rows(file, at, ty, &mut from, &mut to, m);
+    least_above(&table, &from[..n], &to[..n], m);
 }
