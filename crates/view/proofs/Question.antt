@@ -1,7 +1,6 @@
 -- A question on the rows of a section, in general: the struct that answers it, when it may be asked, and the answer. It has two contracts, over the
 -- slice and the starts, and over the view that holds them; and two bodies, one that takes the view apart and one that makes it. Assumes nothing.
-use Rattle.view.proofs.Walk.{_≡_, ℕ, [], _∷_, List, URA, w64, w8, named, erased, Ty, Lifetime, Fn, tyInt, tyRef, tyStruct, tcons, tnil, imm, local, valueLocal, place, field, copy, rvOpd, assign, call, seq, return, Name, Heap, fact, RattleType, now, namedLft, plain, usize, u8, yes, Declared, Lfts}
-use denote.Signature.{Signature}
+use Rattle.view.proofs.Walk.{_≡_, ℕ, [], _∷_, List, URA, w64, w8, named, erased, Ty, Lifetime, Fn, tyInt, tyRef, tyStruct, tcons, tnil, imm, local, valueLocal, place, field, copy, rvOpd, assign, call, seq, return, Name, fact, RattleType, now, namedLft, plain, usize, u8, yes, Declared, Lfts}
 use denote.Builtin.{SliceRefOf}
 use denote.Struct.Struct.{layout}
 use denote.Struct.Declared as declared

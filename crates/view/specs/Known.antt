@@ -1,6 +1,6 @@
 -- A file that was read is well read: a fine verdict passed every test on the way, row by row.
-use mathlib.Core.Path.{_≡_, refl, sym, ap, _∙_}
-use mathlib.Core.Bool.{Bool, true}
+use mathlib.Core.Path.{_≡_, refl}
+use mathlib.Core.Bool.{true}
 use Prim.Native.Nat.{ℕ, zero, suc, _+_, _*_, _≤_, _<_, zero-le}
 use native.Mathlib.Nat.{mul-suc}
 use native.Mathlib.Omega.{arith}
@@ -10,7 +10,7 @@ use lib.Dec.{leb, eqb}
 use borrow.Author.Tests.{leb-true, eqb-true}
 use Rattle.rules.specs.declared.Starts.{Starts}
 use Rattle.rules.specs.declared.Section.{Section}
-use Rattle.rules.specs.declared.Section.the-variants.{Types, Homes, Exprs, Commands}
+use Rattle.rules.specs.declared.Section.the-variants.{Types}
 use Rattle.rules.specs.Basic.{half, inRange, Verdict, fine, refused, guard, unlessRefused}
 use Rattle.rules.specs.Table.{Routine, layout, total, routine}
 use Rattle.rules.specs.Reading.{rowBytes, fewest, most, rowGood, rowRead, rows, section, cells, reading}

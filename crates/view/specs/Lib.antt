@@ -3,5 +3,6 @@ pub mod Tests
 pub mod WellRead
 pub mod Rows
 pub mod Known
+pub mod Tags
 pub mod Means
 pub mod Typed

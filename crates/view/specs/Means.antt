@@ -1,7 +1,7 @@
 -- What the rows that the view answers mean in the routine, and that their numbers are in range.
-use mathlib.Core.Path.{_≡_, refl, sym, ap, _∙_}
+use mathlib.Core.Path.{_≡_, refl, ap}
 use mathlib.Core.Bool.{true}
-use Prim.Native.Nat.{ℕ, zero, suc, _+_, _*_, _-_, _≤_, _<_}
+use Prim.Native.Nat.{ℕ, zero, suc, _+_, _*_, _≤_, _<_}
 use native.Mathlib.Nat.{not-suc-le-zero}
 use native.Mathlib.Numerals.{sub-one}
 use native.Mathlib.Omega.{arith}
@@ -14,10 +14,9 @@ use Rattle.rules.specs.Reading.{rowGood, exprSpare, exprGood, commandSpare, com
 use Rattle.rules.specs.Shape.{homeAt}
 use Rattle.view.specs.Tests.{both-true, in-range}
 use Rattle.view.specs.WellRead.{WellRead}
-use Rattle.view.specs.declared.HomeRow.{HomeRow}
 use Rattle.view.specs.declared.ExprRow.{ExprRow}
 use Rattle.view.specs.declared.CommandRow.{CommandRow}
-use Rattle.view.specs.Rows.{homePlace, homeRow, exprRow, commandRow}
+use Rattle.view.specs.Rows.{homePlace, exprRow, commandRow}
 
 -- ---- a row's meaning
 

@@ -1,5 +1,5 @@
 -- The types of a file's expression rows: each is its row's rule over those of earlier rows, and no type is beyond the last.
-use mathlib.Core.Path.{_≡_, refl, sym, ap, _∙_}
+use mathlib.Core.Path.{_≡_, refl, ap, _∙_}
 use mathlib.Core.Bool.{true}
 use Prim.Native.Nat.{ℕ, zero, suc, _+_, _*_, _≤_, _<_, zero-le}
 use native.Mathlib.Nat.{not-suc-le-zero}
@@ -14,7 +14,6 @@ use Rattle.rules.specs.Reading.{exprGood}
 use Rattle.rules.specs.Shape.{homeAt, rowType, typeBelow, typeOf}
 use Rattle.view.specs.Tests.{both-true, both-less, in-range}
 use Rattle.view.specs.WellRead.{WellRead}
-use Rattle.view.specs.Rows.{homePlace}
 use Rattle.view.specs.Means.{home-has, home-in-range, target-below, expr-in-range}
 
 -- A row in range asks only for the types of earlier rows.

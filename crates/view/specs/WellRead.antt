@@ -1,22 +1,15 @@
 -- What refusals 1 to 5 leave of a file that earns none of them: where its sections start, and that every row is whole and in range.
-use mathlib.Core.Path.{_≡_, refl, sym, ap, _∙_}
+use mathlib.Core.Path.{_≡_}
 use mathlib.Core.Bool.{true}
-use Prim.Native.Nat.{ℕ, zero, suc, _+_, _*_, _≤_, _<_, zero-le}
-use native.Mathlib.Omega.{arith}
+use Prim.Native.Nat.{ℕ, _+_, _*_, _≤_, _<_}
 use mathlib.Core.List.{List}
 use lib.ListN.{length}
-use lib.Dec.{leb, eqb}
-use borrow.Author.Tests.{leb-true, eqb-true}
 use Rattle.rules.specs.declared.Starts.{Starts}
 use Rattle.rules.specs.declared.Section.{Section}
 use Rattle.rules.specs.declared.Section.the-variants.{Types, Homes, Exprs, Commands}
-use Rattle.rules.specs.Basic.{half, inRange, Verdict, fine, guard, unlessRefused}
-use Rattle.rules.specs.Table.{layout, total, routine}
-use Rattle.rules.specs.Reading.{rowBytes, fewest, most, rowGood, rowRead, rows, section, cells, reading}
-use Rattle.rules.specs.Shape.{shape}
-use Rattle.rules.specs.Calls.{formed}
-use Rattle.rules.specs.Tested.{passed, refused-fine, scan-fine}
-use Rattle.view.specs.Tests.{in-range}
+use Rattle.rules.specs.Basic.{half}
+use Rattle.rules.specs.Table.{layout, total}
+use Rattle.rules.specs.Reading.{rowBytes, fewest, most, rowGood, cells}
 
 -- A section whose count stands at q is whole, has few enough rows, and each is in range.
 pub record Whole (s : List ℕ) (c : Section) (q : ℕ) : Type 0 where

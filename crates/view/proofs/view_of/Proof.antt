@@ -1,6 +1,6 @@
 -- `view::view_of` meets its contract: a walk of its MIR, by hand. A view is made of the slice passed and the starts, in the result's local.
 -- A `&[u8]` is Copy, so what it owns is had twice: once for the exit, and once inside the result, beside the facts of the starts. Assumes nothing.
-use Rattle.view.proofs.Walk.{refl, _≡_, ℕ, [], _∷_, List, URA, named, Val, WT, hasTy, SProp, ent, emp, via, fst∗, Lft, Share, ftrue, flft, Fml, Memory, Routine, Heap, Calls, Loops, WpFn, Tables, Atoms, Fun, givenOf, tables, tablesOf, Given, ‵, _⊛_, _$_, _∵_, !, qed, by, move, suffices, frame, raw, use1, split, fsplit, fjoin, agg, look, init, forget, stop, from, load, assigns, returns, enter, alloc1, alloc0, params1, pass1, pass0, free1, free0, and-then, no-more, WpFn-mono, owns, Is, u8, namedLft, plain, owned, nothing, onEntry, Meets, tripleOf, entered, says, Stays, stay-none, walkOf, goes-none, Walks, ends-at, walked, walk-meets, stay-none-slice, goes-none-slice, yes, length, Holds, RefT, NamedLft, sliceVal, ShrSlice, slice-vals, shr-slice-tells, shr-slice-lawful, shr-slice-copy, own-shut}
+use Rattle.view.proofs.Walk.{refl, ℕ, [], _∷_, List, URA, named, Val, WT, hasTy, SProp, ent, emp, via, fst∗, Lft, Share, ftrue, flft, Fml, Memory, Routine, Heap, Calls, Loops, WpFn, Tables, Atoms, Fun, givenOf, tables, tablesOf, Given, ‵, _⊛_, _$_, _∵_, !, qed, by, move, suffices, frame, raw, use1, split, fsplit, fjoin, agg, look, init, forget, stop, from, load, assigns, returns, enter, alloc1, alloc0, params1, pass1, pass0, free1, free0, and-then, no-more, WpFn-mono, owns, Is, u8, namedLft, plain, owned, nothing, onEntry, Meets, tripleOf, entered, says, Stays, stay-none, walkOf, goes-none, Walks, ends-at, walked, walk-meets, stay-none-slice, goes-none-slice, yes, length, Holds, RefT, NamedLft, sliceVal, ShrSlice, slice-vals, shr-slice-tells, shr-slice-lawful, shr-slice-copy, own-shut}
 use denote.Struct.Laws as LL
 use Rattle.rules.specs.declared.Starts.{Starts}
 use Rattle.rules.proofs.Starts as S
