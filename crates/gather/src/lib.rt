@@ -9,7 +9,7 @@ ghost use Rattle.view.specs.WellRead.{WellRead};
 ghost use Rattle.laws.specs.Formed.{Formed};
 ghost use Rattle.gather.specs.Notes.{NotedIn};
 ghost use Rattle.gather.specs.Gathering.{Noting};
-ghost use Rattle.gather.specs.Rows.{Typed};
+ghost use Rattle.gather.specs.Operands.{Typed};
 ghost use Rattle.gather.specs.Tables.{Filled};
 
 // All SAFE.

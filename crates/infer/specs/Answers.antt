@@ -13,33 +13,17 @@ use Rattle.rules.specs.declared.ReadAnswer.the-variants as reads
 use Rattle.rules.specs.Basic.{half, fine, refused}
 use Rattle.rules.specs.Table.{routine}
 use Rattle.rules.specs.Least.{Least}
-use Rattle.rules.specs.Calls.{formed, readSays, refusal, inferable, Inferred, left, marked}
-use Rattle.laws.specs.Promises.{Bytes}
-use Rattle.laws.specs.Read.{formed-fine}
+use Rattle.rules.specs.Calls.{refusal, inferable, Inferred, left, marked}
 use Rattle.view.specs.declared.Counts.{Counts}
 use Rattle.view.specs.Rows.{countsOf}
-use Rattle.view.specs.Known.{formed-reading, formed-known}
 use Rattle.reader.specs.Tables.{ReadTyped}
-use Rattle.gather.specs.Rows.{Typed}
+use Rattle.gather.specs.Told.{told-fine, told-refused}
 
--- ---- what reading told
-
-module _ {s before after : List ℕ} {r : ReadAnswer} (t : ReadTyped s before after r) where
-  pub file-fine : {at : Starts} → r ≡ reads.WellFormed at → formed s ≡ fine at
-  file-fine e = sym (t .answer) ∙ ap readSays e
-
-  -- A well-formed file, with the table of its types.
-  pub file-typed : {at : Starts} → Bytes s → r ≡ reads.WellFormed at → Typed s at after
-  file-typed {at} b e =
-      let f : formed s ≡ fine at = file-fine e in
-      record { file = formed-known s at f; formed = formed-fine b f; types = t .filled at (formed-reading s at f) .types }
-
-  -- Refusals 1 to 6.
-  pub file-refused : {lent : List ℕ} {n : Refusal} → r ≡ reads.Refused n → Inferred s lent (record { answer = refusal n; lent = lent })
-  unfolding inferable
-  file-refused {n = n} e =
-      let f : formed s ≡ refusal n = sym (t .answer) ∙ ap readSays e in
-      left {n = n .number} {p = n .place} (rw f)
+-- Refusals 1 to 6.
+pub file-refused : {s before after lent : List ℕ} {r : ReadAnswer} {n : Refusal} → ReadTyped s before after r → r ≡ reads.Refused n
+    → Inferred s lent (record { answer = refusal n; lent = lent })
+unfolding inferable
+file-refused {n = n} t e = let f = told-refused t e in left {n = n .number} {p = n .place} (rw f)
 
 -- ---- what is lent
 
@@ -60,7 +44,7 @@ module _ {s before after : List ℕ} {r : ReadAnswer} (t : ReadTyped s before af
   unfolding inferable
   marking-short l =
       let q = types-count in
-      rw q (left {n = 9} {p = half s (at .types)} (rw (file-fine t e, lt-leb (half s (at .types)) (length lent) (omega arith))))
+      rw q (left {n = 9} {p = half s (at .types)} (rw (told-fine t e, lt-leb (half s (at .types)) (length lent) (omega arith))))
 
   pub marking-filled : {m : List ℕ} → counts .types ≤ length lent → Least (routine s at) m
       → Inferred s lent (record { answer = fine tt; lent = m ++ drop (counts .types) lent })
@@ -68,4 +52,4 @@ module _ {s before after : List ℕ} {r : ReadAnswer} (t : ReadTyped s before af
   marking-filled {m} l low =
       let q = types-count in
       let z : counts .types ≡ length m = q ∙ sym (low .acceptable .size) in
-      rw z (marked {at = at} (rw (file-fine t e, le-leb (half s (at .types)) (length lent) (omega arith))) low)
+      rw z (marked {at = at} (rw (told-fine t e, le-leb (half s (at .types)) (length lent) (omega arith))) low)

@@ -1,7 +1,8 @@
 -- `gather::command` meets its contract: a store notes its conversion, any other row asks nothing.
 use native.Mathlib.Omega.{arith}
 use lib.ListN.{getD}
-use Rattle.gather.specs.Rows.{row-target, target-high, store-pointer, store-value, store-ref, noting-store, noting-rest}
+use Rattle.gather.specs.Operands.{row-target, target-high, store-pointer, store-value, store-ref}
+use Rattle.gather.specs.Rows.{noting-store, noting-rest}
 use borrow.Author.Needs.{needs}
 use Rattle.gather.proofs.command.Statement.{statement}
 use Rattle.gather.proofs.command.Tie as tie

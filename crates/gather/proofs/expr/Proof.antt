@@ -1,6 +1,7 @@
 -- `gather::expr` meets its contract, a law for each kind of row: a cast, a pointer sum, any other.
 use native.Mathlib.Omega.{arith}
-use Rattle.gather.specs.Rows.{cast-operand, cast-type, sum-operand, sum-ref, noting-cast, noting-sum, noting-other}
+use Rattle.gather.specs.Operands.{cast-operand, cast-type, sum-operand, sum-ref}
+use Rattle.gather.specs.Rows.{noting-cast, noting-sum, noting-other}
 use borrow.Author.Needs.{needs}
 use Rattle.gather.proofs.expr.Statement.{statement}
 use Rattle.gather.proofs.expr.Tie as tie

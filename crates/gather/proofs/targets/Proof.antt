@@ -3,7 +3,7 @@ use Prim.Native.Nat.{_≤_, _+_, _-_}
 use mathlib.Core.Path.{_≡_}
 use native.Mathlib.Omega.{arith}
 use Rattle.rules.specs.Table.{routine}
-use Rattle.gather.specs.Rows.{row-target, target-high}
+use Rattle.gather.specs.Operands.{row-target, target-high}
 use Rattle.gather.specs.Tables.{Filled, filled-none, filled-more}
 use Rattle.gather.proofs.targets.Statement.{statement}
 use Rattle.gather.proofs.targets.Tie as tie

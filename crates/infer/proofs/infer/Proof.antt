@@ -1,6 +1,7 @@
 -- `infer::infer` meets its contract, a law for each way out: refused with the file, too little lent, marked. Nothing is written before the last.
 use native.Mathlib.Omega.{arith}
-use Rattle.infer.specs.Answers.{file-typed, file-refused, part-size, part-types, marking-short, marking-filled}
+use Rattle.gather.specs.Told.{told-typed}
+use Rattle.infer.specs.Answers.{file-refused, part-size, part-types, marking-short, marking-filled}
 use borrow.Author.Needs.{needs}
 use Rattle.infer.proofs.infer.Statement.{statement}
 use Rattle.infer.proofs.infer.Tie as tie
@@ -18,7 +19,7 @@ returns : tie.Need-returns
 returns c = file-refused (c .before .before .before .read-typed .ensures) (c .before .read2 .given .1)
 
 row-counts-requires : tie.Need-row-counts-requires
-row-counts-requires c κs = file-typed (c .before .before .before .read-typed .ensures) (record { each = λ i. omega (arith, c .before .before .before .before .before .before .shared-slice-known .given i) }) (c .before .read .given .1) .file
+row-counts-requires c κs = told-typed (c .before .before .before .read-typed .ensures) (record { each = λ i. omega (arith, c .before .before .before .before .before .before .shared-slice-known .given i) }) (c .before .read .given .1) .file
 
 cast-types : tie.Need-cast-types
 cast-types c = search needs
@@ -37,7 +38,7 @@ slice-aggregate-mark c = part-size _ (c .before .before .if1 .left)
 
 mark-requires : tie.Need-mark-requires
 mark-requires c κs = (
-  file-typed (c .before .before .before .before .before .before .before .before .read-typed .ensures) (record { each = λ i. omega (arith, c .before .before .before .before .before .before .before .before .before .before .before .shared-slice-known .given i) }) (c .before .before .before .before .before .before .read .given .1),
+  told-typed (c .before .before .before .before .before .before .before .before .read-typed .ensures) (record { each = λ i. omega (arith, c .before .before .before .before .before .before .before .before .before .before .before .shared-slice-known .given i) }) (c .before .before .before .before .before .before .read .given .1),
   part-types (c .before .before .before .before .before .before .before .before .read-typed .ensures) (c .before .before .before .before .before .before .read .given .1) (c .before .before .before .before .row-counts .ensures) _ (c .before .before .if1 .left),
 )
 
