@@ -22,18 +22,19 @@ use Rattle.rules.specs.Table.{Routine, routine, operatorOf, exprOf, commandOf, 
 use Rattle.rules.specs.Reading.{exprGood, commandGood, reading}
 use Rattle.rules.specs.Shape.{rowType, typeOf, exprShaped, commandShaped, shape}
 use Rattle.rules.specs.Calls.{readSays, formed}
+use Rattle.rules.specs.Tested.{refused-fine}
 use Rattle.view.specs.declared.HomeRow.{HomeRow}
 use Rattle.view.specs.declared.TypeRow.{TypeRow}
 use Rattle.view.specs.declared.ExprRow.{ExprRow}
 use Rattle.view.specs.declared.CommandRow.{CommandRow}
-use Rattle.view.specs.Tests.{false-true, both-true, both-less, in-range}
+use Rattle.view.specs.Tests.{false-true, both-true, both-less, in-range, fine-same}
 use Rattle.view.specs.WellRead.{WellRead}
 use Rattle.view.specs.Known.{reading-known}
 use Rattle.view.specs.Rows.{homeRow, typeRow, exprRow, commandRow, HomeAsked, TypeAsked}
 use Rattle.view.specs.Tags.{expr-good-op, command-none}
 use Rattle.view.specs.Means.{expr-means, command-means, home-has, expr-in-range, command-in-range}
 use Rattle.view.specs.Typed.{type-by-rule, type-in-range}
-use Rattle.reader.specs.Tables.{TypedTo, TypeTable, countOf, shapedAt, placeOf, misshapen, ReadTyped}
+use Rattle.reader.specs.Tables.{TypedTo, TypeTable, countOf, shapedAt, placeOf, misshapenFrom, misshapen, ReadTyped}
 
 -- ---- an expression row in hand, with a table that has the types of those before it
 
@@ -224,6 +225,9 @@ module _ {s : List ℕ} {at : Starts} {before : List ℕ} {n e : ℕ} {ty : List
 pub place-is : (at : Starts) (k b : Bool) (i : ℕ) (v : ℕ) → k ≡ b → v ≡ placeOf at b i → v ≡ placeOf at k i
 place-is at k b i v h g = rw h g
 
+pub count-is : (r : Routine) (k b : Bool) (v : ℕ) → k ≡ b → v ≡ countOf r b → v ≡ countOf r k
+count-is r k b v h g = rw h g
+
 pub meant : (r : Routine) (k b : Bool) (i : ℕ) → k ≡ b → i < countOf r k → i < countOf r b
 meant r k b i h l = rw (← h) l
 
@@ -236,44 +240,44 @@ few-rows s at true known = known .commands .few
 
 -- At row i of n: the rest of the rows is judged as all of them are.
 pub record ShapedSoFar (s : List ℕ) (at : Starts) (k : Bool) (n i : ℕ) : Type 0 where
-  pub rest : misshapen s at k 0 n (λ _. fine at) ≡ misshapen s at k i (n - i) (λ _. fine at)
+  pub rest : misshapen s at k (λ _. fine at) ≡ misshapenFrom s at k i (n - i) (λ _. fine at)
+  pub count : n ≡ countOf (routine s at) k
   pub within : i ≤ n
 
-pub shaped-start : (s : List ℕ) (at : Starts) (k : Bool) (n : ℕ) → ShapedSoFar s at k n 0
-shaped-start s at k n = let e : n - 0 ≡ n = omega arith in record { rest = rw e; within = omega arith }
+pub shaped-start : (s : List ℕ) (at : Starts) (k : Bool) (n : ℕ) → n ≡ countOf (routine s at) k → ShapedSoFar s at k n 0
+shaped-start s at k n count = let e : countOf (routine s at) k ≡ n - 0 = omega arith in record { rest = rw e; count = count; within = omega arith }
 
 module _ {s : List ℕ} {at : Starts} {k : Bool} {n i : ℕ} (so-far : ShapedSoFar s at k n i) where
   module _ (less : i < n) where
-    one-row : misshapen s at k i (n - i) (λ _. fine at) ≡ guard 6 (placeOf at k i) (shapedAt (routine s at) k i) λ _. misshapen s at k (i + 1) (n - (i + 1)) (λ _. fine at)
-    unfolding misshapen
+    one-row : misshapenFrom s at k i (n - i) (λ _. fine at) ≡ guard 6 (placeOf at k i) (shapedAt (routine s at) k i) λ _. misshapenFrom s at k (i + 1) (n - (i + 1)) (λ _. fine at)
+    unfolding misshapenFrom
     one-row = let e : n - i ≡ suc (n - (i + 1)) = omega arith in rw (e, add-one i)
 
-    pub row-misshapen : {p : ℕ} → p ≡ placeOf at k i → shapedAt (routine s at) k i ≡ false → refused 6 p ≡ misshapen s at k 0 n (λ _. fine at)
+    pub row-misshapen : {p : ℕ} → p ≡ placeOf at k i → shapedAt (routine s at) k i ≡ false → refused 6 p ≡ misshapen s at k (λ _. fine at)
     row-misshapen h g = ap (λ x. refused 6 x) h ∙ sym (so-far .rest ∙ one-row ∙ rw g)
 
     pub row-shaped : shapedAt (routine s at) k i ≡ true → ShapedSoFar s at k n (i + 1)
-    row-shaped g = record { rest = so-far .rest ∙ one-row ∙ rw g; within = omega arith }
+    row-shaped g = record { rest = so-far .rest ∙ one-row ∙ rw g; count = so-far .count; within = omega arith }
 
-  pub all-shaped : n ≤ i → fine at ≡ misshapen s at k 0 n (λ _. fine at)
-  unfolding misshapen
+  pub all-shaped : n ≤ i → fine at ≡ misshapen s at k (λ _. fine at)
+  unfolding misshapenFrom
   all-shaped l = let e : n - i ≡ 0 = omega arith in sym (so-far .rest ∙ rw e)
 
 -- ---- expressions, then commands
 
 -- rows judged, and then what follows
-module _ {X : Type 0} (s : List ℕ) (at : Starts) (k : Bool) (x : X) (go : Unit {0} → Verdict X) where
-  one-then : (p : ℕ) (b : Bool) (u v : Verdict X) → u ≡ unlessRefused v (λ _. go tt) → guard 6 p b (λ _. u) ≡ unlessRefused (guard 6 p b (λ _. v)) (λ _. go tt)
+module _ (s : List ℕ) (at : Starts) (k : Bool) (go : Unit {0} → Verdict Starts) where
+  one-then : (p : ℕ) (b : Bool) (u v : Verdict Starts) → u ≡ unlessRefused v (λ _. go tt) → guard 6 p b (λ _. u) ≡ unlessRefused (guard 6 p b (λ _. v)) (λ _. go tt)
   one-then p true u v h = h
   one-then p false u v h = refl
 
-  misshapen-then : (i n : ℕ) → misshapen s at k i n go ≡ unlessRefused (misshapen s at k i n (λ _. fine x)) (λ _. go tt)
-  unfolding misshapen
+  misshapen-then : (i n : ℕ) → misshapenFrom s at k i n go ≡ unlessRefused (misshapenFrom s at k i n (λ _. fine at)) (λ _. go tt)
+  unfolding misshapenFrom
   misshapen-then i zero = refl
   misshapen-then i (suc n) = one-then (placeOf at k i) (shapedAt (routine s at) k i) _ _ (misshapen-then (suc i) n)
 
-shape-is : (s : List ℕ) (at : Starts) → shape (routine s at) (λ _. fine at)
-    ≡ misshapen s at false 0 (half s (at .exprs)) (λ _. misshapen s at true 0 (half s (at .commands)) (λ _. fine at))
-unfolding shape misshapen
+shape-is : (s : List ℕ) (at : Starts) → shape (routine s at) (λ _. fine at) ≡ misshapen s at false (λ _. misshapen s at true (λ _. fine at))
+unfolding shape misshapenFrom
 shape-is s at = refl
 
 -- what comes after an answer
@@ -285,26 +289,20 @@ goes : (r : ReadAnswer) (v : Verdict Starts) → tagOf answers.the-type r ≡ 0 
 goes (WellFormed at) v h = refl
 goes (Refused m) v h = absurd (omega arith)
 
-module _ (s : List ℕ) (at : Starts) (r : ReadAnswer) {n : ℕ} (exprs : n ≡ half s (at .exprs)) (first : readSays r ≡ misshapen s at false 0 n (λ _. fine at)) where
-  shape-then : shape (routine s at) (λ _. fine at) ≡ unlessRefused (readSays r) (λ _. misshapen s at true 0 (half s (at .commands)) (λ _. fine at))
+module _ (s : List ℕ) (at : Starts) (r : ReadAnswer) (first : readSays r ≡ misshapen s at false (λ _. fine at)) where
+  shape-then : shape (routine s at) (λ _. fine at) ≡ unlessRefused (readSays r) (λ _. misshapen s at true (λ _. fine at))
   shape-then =
       shape-is s at
-      ∙ misshapen-then s at false at (λ _. misshapen s at true 0 (half s (at .commands)) (λ _. fine at)) 0 (half s (at .exprs))
-      ∙ ap (λ x. unlessRefused x (λ _. misshapen s at true 0 (half s (at .commands)) (λ _. fine at))) (sym (first ∙ ap (λ x. misshapen s at false 0 x (λ _. fine at)) exprs))
+      ∙ misshapen-then s at false (λ _. misshapen s at true (λ _. fine at)) 0 (half s (at .exprs))
+      ∙ ap (λ x. unlessRefused x (λ _. misshapen s at true (λ _. fine at))) (sym first)
 
   pub exprs-misshapen : tagOf answers.the-type r ≡ 1 → readSays r ≡ shape (routine s at) (λ _. fine at)
   exprs-misshapen h = halts r _ h ∙ sym shape-then
 
-  pub exprs-shaped : {m : ℕ} {v : Verdict Starts} → tagOf answers.the-type r ≡ 0 → m ≡ half s (at .commands) → v ≡ misshapen s at true 0 m (λ _. fine at) → v ≡ shape (routine s at) (λ _. fine at)
-  exprs-shaped h commands second = second ∙ ap (λ x. misshapen s at true 0 x (λ _. fine at)) commands ∙ sym (shape-then ∙ goes r _ h)
+  pub exprs-shaped : {v : Verdict Starts} → tagOf answers.the-type r ≡ 0 → v ≡ misshapen s at true (λ _. fine at) → v ≡ shape (routine s at) (λ _. fine at)
+  exprs-shaped h second = second ∙ sym (shape-then ∙ goes r _ h)
 
 -- ---- the whole
-
-fine-same : {X : Type 0} {x y : X} → _≡_ {A = Verdict X} (fine x) (fine y) → x ≡ y
-fine-same h = cc
-
-fine-refused : {A X : Type 0} {x : X} {n p : ℕ} → _≡_ {A = Verdict X} (fine x) (refused n p) → A
-fine-refused h = let z : _≡_ {A = ℕ} 0 1 = cc in absurd (omega arith)
 
 formed-is : (s : List ℕ) → formed s ≡ unlessRefused (reading s) (λ at. shape (routine s at) (λ _. fine at))
 unfolding formed
@@ -320,7 +318,7 @@ module _ (s : List ℕ) (r : ReadAnswer) (read : readSays r ≡ reading s) where
     where
       not-fine : {A : Type 0} {at : Starts} (r : ReadAnswer) → tagOf answers.the-type r ≡ 1 → readSays r ≡ fine at → A
       not-fine (WellFormed at) h e = absurd (omega arith)
-      not-fine (Refused m) h e = fine-refused (sym e)
+      not-fine (Refused m) h e = refused-fine e
 
   module _ {at : Starts} (is : r ≡ WellFormed at) where
     was-read : reading s ≡ fine at
@@ -333,5 +331,5 @@ module _ (s : List ℕ) (r : ReadAnswer) (read : readSays r ≡ reading s) where
     read-typed table judged = record {
       answer = judged ∙ sym (formed-is s ∙ ap (λ x. unlessRefused x (λ at. shape (routine s at) (λ _. fine at))) was-read);
       filled = λ at′ e. let same : at ≡ at′ = fine-same (sym was-read ∙ e) in rw (← same) table;
-      left = λ n p e. fine-refused (sym was-read ∙ e);
+      left = λ n p e. refused-fine (sym e ∙ was-read);
     }

@@ -27,9 +27,12 @@ abbrev pub placeOf : Starts → Bool → ℕ → ℕ
 placeOf at false e = at .exprs + 2 + 5 * e
 placeOf at true c = at .commands + 2 + 7 * c
 
--- Refusal 6 over n rows, from number i on.
-unfoldable pub misshapen : {X : Type 0} → List ℕ → Starts → Bool → ℕ → ℕ → (Unit {0} → Verdict X) → Verdict X
-misshapen s at k i n go = firstBad 6 (λ j. shapedAt (routine s at) k j) (λ j. placeOf at k j) i n go
+-- Refusal 6 over n rows, from number i on; over all.
+unfoldable pub misshapenFrom : {X : Type 0} → List ℕ → Starts → Bool → ℕ → ℕ → (Unit {0} → Verdict X) → Verdict X
+misshapenFrom s at k i n go = firstBad 6 (λ j. shapedAt (routine s at) k j) (λ j. placeOf at k j) i n go
+
+abbrev pub misshapen : {X : Type 0} → List ℕ → Starts → Bool → (Unit {0} → Verdict X) → Verdict X
+misshapen s at k go = misshapenFrom s at k 0 (countOf (routine s at) k) go
 
 -- ---- the table
 

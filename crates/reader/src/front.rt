@@ -1,4 +1,5 @@
 // The sections front to back: refusals 1 to 4 as they are met, then 5.
+// A section has at most 2 + 7 * 1,024 = 7,170 bytes, so the four start and end within multiples of that, and every place fits.
 use super::range::half_at;
 use super::range::in_range;
 use super::range::row_good;
@@ -19,7 +20,7 @@ pub enum Step {
     No(Refusal),
 }
 
-// A refusal's number and its place, which is inside every file that gets so far.
+// A refusal as a step.
 fn no(number: u32, place: usize) -> Step
     requires { ⌜ place ≤ 30000 ⌝ }
     ensures { λ r. ⌜ r ≡ Step.No (record { number = number; place = place }) ⌝ }
@@ -42,7 +43,7 @@ fn bytes_of(part: Section) -> usize
     }
 }
 
-// The fewest rows that a section may have, and the most.
+// The fewest rows that a section may have.
 fn fewest_of(part: Section) -> usize
     ensures { λ r. ⌜ r ≡ fewest part ⌝ }
 {
@@ -54,6 +55,7 @@ fn fewest_of(part: Section) -> usize
     }
 }
 
+// The most rows that a section may have.
 fn most_of(part: Section) -> usize
     ensures { λ r. ⌜ (r ≡ most part) × (r ≤ 1024) ⌝ }
 {

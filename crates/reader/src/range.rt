@@ -77,7 +77,7 @@ fn command_fields(tag: usize, a: usize, b: usize, c: usize, exprs: usize, i: usi
     }
 }
 
-// A type row: its target is a lower number.
+// A type row, at place `q`: its target is a lower number.
 fn type_good(s: &[u8], i: usize, q: usize) -> bool
     requires { ⌜ q + 2 ≤ length (now s) ⌝ }
     ensures { λ r. ⌜ r ≡ rowGood (now (s .entry)) Section.Types i q ⌝ }
@@ -85,7 +85,7 @@ fn type_good(s: &[u8], i: usize, q: usize) -> bool
     half_at(s, q) <= i
 }
 
-// A home row: its type is a type of the file, and its size 1 to 1,024.
+// A home row, at place `q`: its type is a type of the file, and its size 1 to 1,024.
 fn home_good(s: &[u8], types: usize, q: usize) -> bool
     requires { ⌜ q + 4 ≤ length (now s) ⌝ }
     ensures { λ r. ⌜ ((i : ℕ) → r ≡ rowGood (now (s .entry)) (Section.Homes types) i q) ⌝ }
@@ -96,6 +96,7 @@ fn home_good(s: &[u8], types: usize, q: usize) -> bool
     )
 }
 
+// An expression row, at place `q`.
 fn expr_good(s: &[u8], types: usize, homes: usize, i: usize, q: usize) -> bool
     requires { ⌜ q + 5 ≤ length (now s) ⌝ }
     ensures { λ r. ⌜ r ≡ rowGood (now (s .entry)) (Section.Exprs types homes) i q ⌝ }
@@ -106,6 +107,7 @@ fn expr_good(s: &[u8], types: usize, homes: usize, i: usize, q: usize) -> bool
     expr_fields(tag, a, b, types, homes, i)
 }
 
+// A command row, at place `q`.
 fn command_good(s: &[u8], exprs: usize, i: usize, q: usize) -> bool
     requires { ⌜ q + 7 ≤ length (now s) ⌝ }
     ensures { λ r. ⌜ r ≡ rowGood (now (s .entry)) (Section.Commands exprs) i q ⌝ }

@@ -104,11 +104,24 @@ fn place_of(at: Starts, commands: bool, i: usize) -> usize
     at.exprs as usize + 2 + 5 * i
 }
 
-// The first row of ill shape, if there is one.
-fn rows_shaped(file: &[u8], at: Starts, ty: &[u16; 1024], commands: bool, n: usize) -> ReadAnswer
-    requires { ⌜ TypedTo (now file) at (countOf (routine (now file) at) false) (now ty) × (n ≡ countOf (routine (now file) at) commands) ⌝ }
-    ensures { λ r. ⌜ readSays r ≡ misshapen (now (file .entry)) at commands 0 n (λ _. fine at) ⌝ }
+// How many expressions or commands there are.
+fn count_of(file: &[u8], at: Starts, commands: bool) -> usize
+    requires { ⌜ WellRead (now file) at ⌝ }
+    ensures { λ r. ⌜ r ≡ countOf (routine (now (file .entry)) at) commands ⌝ }
 {
+    let n = row_counts(file, at);
+    if commands {
+        return n.commands as usize;
+    }
+    n.exprs as usize
+}
+
+// The first row of ill shape, of the expressions or of the commands.
+fn rows_shaped(file: &[u8], at: Starts, ty: &[u16; 1024], commands: bool) -> ReadAnswer
+    requires { ⌜ TypedTo (now file) at (countOf (routine (now file) at) false) (now ty) ⌝ }
+    ensures { λ r. ⌜ readSays r ≡ misshapen (now (file .entry)) at commands (λ _. fine at) ⌝ }
+{
+    let n = count_of(file, at, commands);
     let mut i = 0;
     while i < n {
         if !row_shaped(file, at, ty, commands, i) {
@@ -127,10 +140,9 @@ pub fn shaped(file: &[u8], at: Starts, ty: &[u16; 1024]) -> ReadAnswer
     requires { ⌜ TypedTo (now file) at (countOf (routine (now file) at) false) (now ty) ⌝ }
     ensures { λ r. ⌜ readSays r ≡ shape (routine (now (file .entry)) at) (λ _. fine at) ⌝ }
 {
-    let n = row_counts(file, at);
-    let exprs = rows_shaped(file, at, ty, false, n.exprs as usize);
+    let exprs = rows_shaped(file, at, ty, false);
     let ReadAnswer::WellFormed(_) = exprs else {
         return exprs;
     };
-    rows_shaped(file, at, ty, true, n.commands as usize)
+    rows_shaped(file, at, ty, true)
 }

@@ -20,7 +20,7 @@ pub use types.Run.{look, init, forget, stop, fld, from, load, of-opd, assigns, r
 pub use sound.WpLaws.{WpFn-mono, FmC, fmOf}
 pub use denote.RattleType.{RattleType, owns}
 pub use denote.Laws.{Is, shows}
-pub use denote.Plain.{uint-makes, uint-vals, uint-tells, uint-lawful}
+pub use denote.Plain.{uint-makes, uint-vals, uint-tells}
 pub use denote.Builtin.{usize, u8}
 pub use denote.Signature.{namedLft, plain}
 pub use denote.Steps.{owned, nothing, peeks, heard}

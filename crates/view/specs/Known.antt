@@ -17,7 +17,7 @@ use Rattle.rules.specs.Reading.{rowBytes, fewest, most, rowGood, rowRead, rows,
 use Rattle.rules.specs.Shape.{exprShaped, commandShaped, shape}
 use Rattle.rules.specs.Calls.{formed}
 use Rattle.rules.specs.Tested.{refused-fine, passed, scan-fine, none-bad}
-use Rattle.view.specs.Tests.{in-range}
+use Rattle.view.specs.Tests.{in-range, fine-same}
 use Rattle.view.specs.WellRead.{Whole, WellRead}
 
 -- ---- refusals 1 to 3: a section
@@ -71,9 +71,6 @@ cells-known s q before from (suc n) go x l h =
 
 abbrev startsAt : ℕ → ℕ → ℕ → Starts
 startsAt h e c = record { types = 0; homes = h; exprs = e; commands = c }
-
-fine-same : {X : Type 0} {x y : X} → _≡_ {A = Verdict X} (fine x) (fine y) → x ≡ y
-fine-same h = cc
 
 -- Behind the four sections: refusals 4 and 5.
 end-known : (s : List ℕ) (h e c end homes : ℕ) (at : Starts)

@@ -5,4 +5,5 @@ pub mod Rows
 pub mod Known
 pub mod Tags
 pub mod Means
+pub mod Named
 pub mod Typed

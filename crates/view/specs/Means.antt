@@ -6,6 +6,7 @@ use native.Mathlib.Nat.{not-suc-le-zero}
 use native.Mathlib.Numerals.{sub-one}
 use native.Mathlib.Omega.{arith}
 use mathlib.Core.List.{List}
+use lib.ListN.{length}
 use borrow.Author.Tests.{leb-true}
 use Rattle.rules.specs.declared.Starts.{Starts}
 use Rattle.rules.specs.Basic.{half}
@@ -41,6 +42,29 @@ layout-has s q from (suc n) (suc i) l =
 pub home-has : (s : List ℕ) (at : Starts) (g : ℕ) → 1 ≤ g → g ≤ half s (at .homes) → HomeHas s (homePlace at g) (homeAt (routine s at .homes) g)
 home-has s at zero h l = absurd (not-suc-le-zero h)
 home-has s at (suc g) h l = rw (sub-one (suc g)) (layout-has s (at .homes + 2) 1 (half s (at .homes)) g l)
+
+-- Home 0 is null; home 1 and each next one starts behind the last.
+layout-first : (s : List ℕ) (q from n : ℕ) → 0 < n → homeAt (layout s q from n) 0 .start ≡ from
+layout-first s q from zero l = absurd (not-suc-le-zero l)
+layout-first s q from (suc n) l = refl
+
+layout-follows : (s : List ℕ) (q from n i : ℕ) → suc i < n
+    → homeAt (layout s q from n) (suc i) .start ≡ homeAt (layout s q from n) i .start + homeAt (layout s q from n) i .size
+layout-follows s q from zero i l = absurd (not-suc-le-zero l)
+layout-follows s q from (suc n) zero l = layout-first s (q + 4) (from + half s (q + 2)) n (omega arith)
+layout-follows s q from (suc n) (suc i) l = layout-follows s (q + 4) (from + half s (q + 2)) n i (omega arith)
+
+pub home-follows : (s : List ℕ) (at : Starts) (g : ℕ) → g < half s (at .homes)
+    → homeAt (routine s at .homes) (suc g) .start ≡ homeAt (routine s at .homes) g .start + homeAt (routine s at .homes) g .size
+home-follows s at zero l = layout-first s (at .homes + 2) 1 (half s (at .homes)) l
+home-follows s at (suc g) l = layout-follows s (at .homes + 2) 1 (half s (at .homes)) g l
+
+layout-length : (s : List ℕ) (q from n : ℕ) → length (layout s q from n) ≡ n
+layout-length s q from zero = refl
+layout-length s q from (suc n) = ap suc (layout-length s (q + 4) (from + half s (q + 2)) n)
+
+pub homes-length : (s : List ℕ) (at : Starts) → length (routine s at .homes) ≡ suc (half s (at .homes))
+homes-length s at = ap suc (layout-length s (at .homes + 2) 1 (half s (at .homes)))
 
 -- ---- in range
 

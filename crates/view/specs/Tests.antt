@@ -1,11 +1,11 @@
--- What tests that hold say of numbers.
+-- What tests that hold say of numbers, and equal verdicts of what they carry.
 use mathlib.Core.Path.{_≡_, refl}
 use mathlib.Core.Bool.{Bool, true, false, _&&_}
 use Prim.Native.Nat.{ℕ, _≤_, _<_}
 use native.Mathlib.Omega.{arith}
 use lib.Dec.{leb, ltb}
 use borrow.Author.Tests.{leb-true, ltb-true}
-use Rattle.rules.specs.Basic.{inRange}
+use Rattle.rules.specs.Basic.{inRange, Verdict, fine}
 
 pub false-true : {X : Type 0} → false ≡ true → X
 false-true h = let z : _≡_ {A = ℕ} 0 1 = cc in absurd (omega arith)
@@ -19,3 +19,6 @@ in-range low n high h = let (a, b) = both-true (leb low n) (leb n high) h in (le
 
 pub both-less : (a b i j : ℕ) → (ltb a i && ltb b j) ≡ true → (a < i) × (b < j)
 both-less a b i j h = let (p, q) = both-true (ltb a i) (ltb b j) h in (ltb-true a i p, ltb-true b j q)
+
+pub fine-same : {X : Type 0} {x y : X} → _≡_ {A = Verdict X} (fine x) (fine y) → x ≡ y
+fine-same h = cc

@@ -9,7 +9,7 @@ use Rattle.rules.specs.declared.Section.{Section}
 use Rattle.rules.specs.declared.Section.the-variants.{Types, Homes, Exprs, Commands}
 use Rattle.rules.specs.Basic.{half}
 use Rattle.rules.specs.Table.{layout, total}
-use Rattle.rules.specs.Reading.{rowBytes, fewest, most, rowGood, cells}
+use Rattle.rules.specs.Reading.{rowBytes, fewest, most, rowGood}
 
 -- A section whose count stands at q is whole, has few enough rows, and each is in range.
 pub record Whole (s : List ℕ) (c : Section) (q : ℕ) : Type 0 where

@@ -141,7 +141,7 @@ pub fn view_of<'a>(bytes: &'a [u8], at: Starts) -> View<'a>
     View { bytes, at }
 }
 
-// The view's questions: a row of each section.
+// Type row `t` of the view's file.
 pub fn ask_type<'a>(v: View<'a>, t: usize) -> TypeRow
     requires { ⌜ TypeAsked (now (v .bytes)) (v .at) t ⌝ }
     ensures { λ r. ⌜ r ≡ typeRow (now (v .entry .bytes)) (v .entry .at) t ⌝ }
@@ -149,6 +149,7 @@ pub fn ask_type<'a>(v: View<'a>, t: usize) -> TypeRow
     type_at(v.bytes, v.at, t)
 }
 
+// Home row `g` of the view's file.
 pub fn ask_home<'a>(v: View<'a>, g: usize) -> HomeRow
     requires { ⌜ HomeAsked (now (v .bytes)) (v .at) g ⌝ }
     ensures { λ r. ⌜ r ≡ homeRow (now (v .entry .bytes)) (v .entry .at) g ⌝ }
@@ -156,6 +157,7 @@ pub fn ask_home<'a>(v: View<'a>, g: usize) -> HomeRow
     home_at(v.bytes, v.at, g)
 }
 
+// Expression row `e` of the view's file.
 pub fn ask_expr<'a>(v: View<'a>, e: usize) -> ExprRow
     requires { ⌜ ExprAsked (now (v .bytes)) (v .at) e ⌝ }
     ensures { λ r. ⌜ r ≡ exprRow (now (v .entry .bytes)) (v .entry .at) e ⌝ }
@@ -163,6 +165,7 @@ pub fn ask_expr<'a>(v: View<'a>, e: usize) -> ExprRow
     expr_at(v.bytes, v.at, e)
 }
 
+// Command row `c` of the view's file.
 pub fn ask_command<'a>(v: View<'a>, c: usize) -> CommandRow
     requires { ⌜ CommandAsked (now (v .bytes)) (v .at) c ⌝ }
     ensures { λ r. ⌜ r ≡ commandRow (now (v .entry .bytes)) (v .entry .at) c ⌝ }
@@ -180,7 +183,7 @@ pub fn type_row(file: &[u8], at: Starts, t: usize) -> TypeRow
     ask_type(view_of(file, at), t)
 }
 
-// Home row `g`.
+// Home row `g` of a file that was read.
 pub fn home_row(file: &[u8], at: Starts, g: usize) -> HomeRow
     requires { ⌜ HomeAsked (now file) at g ⌝ }
     ensures { λ r. ⌜ r ≡ homeRow (now (file .entry)) at g ⌝ }
@@ -188,7 +191,7 @@ pub fn home_row(file: &[u8], at: Starts, g: usize) -> HomeRow
     ask_home(view_of(file, at), g)
 }
 
-// Expression row `e`.
+// Expression row `e` of a file that was read.
 pub fn expr_row(file: &[u8], at: Starts, e: usize) -> ExprRow
     requires { ⌜ ExprAsked (now file) at e ⌝ }
     ensures { λ r. ⌜ r ≡ exprRow (now (file .entry)) at e ⌝ }
@@ -196,7 +199,7 @@ pub fn expr_row(file: &[u8], at: Starts, e: usize) -> ExprRow
     ask_expr(view_of(file, at), e)
 }
 
-// Command row `c`.
+// Command row `c` of a file that was read.
 pub fn command_row(file: &[u8], at: Starts, c: usize) -> CommandRow
     requires { ⌜ CommandAsked (now file) at c ⌝ }
     ensures { λ r. ⌜ r ≡ commandRow (now (file .entry)) at c ⌝ }

@@ -13,14 +13,17 @@ Inv-loop file at ty commands n i₀ i = ShapedSoFar file at commands n i
 abbrev μ-loop : tie.MeasureT-loop
 μ-loop file at ty commands n i₀ i = n - i
 
+count-of-requires : tie.Need-count-of-requires Inv-loop μ-loop
+count-of-requires c κs = c .before .pre .file
+
 loop-holds : tie.Need-loop-holds Inv-loop μ-loop
-loop-holds c = shaped-start (c .before .args .file .now) (c .before .args .at) (c .before .args .commands) (c .before .args .n)
+loop-holds c = shaped-start (c .before .before .args .file .now) (c .before .before .args .at) (c .before .before .args .commands) _ (c .count-of .ensures)
 
 row-shaped-requires : tie.Need-row-shaped-requires Inv-loop μ-loop
-row-shaped-requires c κs = (c .before .before .before .pre .0, omega arith)
+row-shaped-requires c κs = (c .before .before .before .before .pre, omega (arith, c .before .loop .inv .count))
 
 place-of-requires : tie.Need-place-of-requires Inv-loop μ-loop
-place-of-requires c κs = let known = c .before .before .before .before .before .pre .0 .file in let few = few-rows (c .before .before .before .before .before .args .file .now) (c .before .before .before .before .before .args .at) (c .before .before .before .before .before .args .commands) known in (omega arith, omega arith, omega arith)
+place-of-requires c κs = let known = c .before .before .before .before .before .before .pre .file in let few = few-rows (c .before .before .before .before .before .before .args .file .now) (c .before .before .before .before .before .before .args .at) (c .before .before .before .before .before .before .args .commands) known in (omega arith, omega arith, omega arith)
 
 cast-t10 : tie.Need-cast-t10 Inv-loop μ-loop
 cast-t10 c = omega (arith, c .place-of .ensures .1)
@@ -46,6 +49,7 @@ rows-shaped-spec =
     (tie.spec
     Inv-loop
     μ-loop
+    count-of-requires
     loop-holds
     row-shaped-requires
     place-of-requires
