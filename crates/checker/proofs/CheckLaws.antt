@@ -18,8 +18,9 @@ use Rattle.rules.specs.Kinds.{kinds}
 use Rattle.rules.specs.Calls.{formed, judged, checking, readSays}
 use Rattle.rules.specs.Tested.{refused-fine}
 use Rattle.laws.specs.Promises.{Bytes}
-use Rattle.laws.specs.Read.{formed-fine, judged-fine, fine-same}
-use Rattle.view.specs.Known.{formed-known, formed-reading}
+use Rattle.laws.specs.Read.{formed-fine, judged-fine}
+use Rattle.rules.specs.Tests.{fine-same}
+use Rattle.laws.specs.Known.{formed-known, formed-reading}
 use Rattle.reader.specs.Tables.{ReadTyped}
 use Rattle.checker.specs.Judge.{TypedFile, CheckedTyped}
 

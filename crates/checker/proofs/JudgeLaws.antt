@@ -10,7 +10,7 @@ use Rattle.rules.specs.declared.Starts.{Starts}
 use Rattle.rules.specs.Basic.{half, Verdict, fine, refused, firstBad}
 use Rattle.rules.specs.Table.{routine}
 use Rattle.rules.specs.Kinds.{typeKind, exprKind, commandKind, kinds}
-use Rattle.view.specs.WellRead.{WellRead}
+use Rattle.laws.specs.WellRead.{WellRead}
 use Rattle.checker.specs.First.{FirstBad, first-stops, none-fails}
 use Rattle.checker.specs.Tables.{AllTypes, Marked, KindsOf}
 use Rattle.checker.specs.Judge.{TypedFile, MarkedFile, Rows, Targets, breaking}

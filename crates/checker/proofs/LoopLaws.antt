@@ -17,7 +17,7 @@ use Rattle.rules.specs.Kinds.{kindOf, kind, exprKind, commandKind}
 use Rattle.view.specs.declared.TypeRow.{TypeRow}
 use Rattle.view.specs.declared.ExprRow.{ExprRow}
 use Rattle.view.specs.declared.CommandRow.{CommandRow}
-use Rattle.view.specs.WellRead.{WellRead}
+use Rattle.laws.specs.WellRead.{WellRead}
 use Rattle.view.specs.Rows.{typeRow, exprRow, commandRow, ExprAsked, CommandAsked, TypeAsked}
 use Rattle.checker.specs.Tables.{kindBy, RowTables, ExprGiven, CommandGiven, Marked, KindsOf}
 use Rattle.checker.specs.Judge.{MarkedFile, Rows, Targets}

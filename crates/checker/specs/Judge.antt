@@ -11,7 +11,7 @@ use Rattle.rules.specs.Table.{Routine, routine}
 use Rattle.rules.specs.Shape.{typeOf}
 use Rattle.rules.specs.Kinds.{typeKind, exprKind, commandKind}
 use Rattle.laws.specs.Formed.{Formed}
-use Rattle.view.specs.WellRead.{WellRead}
+use Rattle.laws.specs.WellRead.{WellRead}
 use Rattle.checker.specs.Tables.{TypeTables}
 
 -- A well-formed file, with the types of its expressions.

@@ -16,7 +16,7 @@ ghost use Rattle.rules.specs.Kinds.{kinds, kindConverts, targetsMatter, typeKin
 ghost use Rattle.rules.specs.Basic.{half, fine};
 ghost use Rattle.rules.specs.Calls.{readSays, checkSays, checking};
 ghost use Rattle.rules.specs.Table.{exprOf, commandOf, routine};
-ghost use Rattle.view.specs.WellRead.{WellRead};
+ghost use Rattle.laws.specs.WellRead.{WellRead};
 ghost use Rattle.view.specs.Rows.{countsOf};
 ghost use Rattle.checker.specs.Judge.{CheckedTyped, TypedFile, MarkedFile, Rows, Targets, breaking};
 ghost use Rattle.checker.specs.Tables.{kindBy, TwoTypes, OneType, AllTypes, ExprGiven, CommandGiven, Marked, KindsOf};

@@ -16,7 +16,7 @@ use Rattle.laws.specs.Formed.{Fits, CommandFits, Formed, type-le, ref-type}
 use Rattle.view.specs.declared.ExprRow.{ExprRow}
 use Rattle.view.specs.declared.CommandRow.{CommandRow}
 use Rattle.view.specs.declared.TypeRow.{TypeRow}
-use Rattle.view.specs.WellRead.{WellRead}
+use Rattle.laws.specs.WellRead.{WellRead}
 use Rattle.view.specs.Rows.{exprRow, commandRow, typeRow}
 use Rattle.raise.specs.Demands.{Ref}
 

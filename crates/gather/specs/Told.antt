@@ -10,7 +10,7 @@ use Rattle.rules.specs.Basic.{fine}
 use Rattle.rules.specs.Calls.{formed, readSays, refusal}
 use Rattle.laws.specs.Promises.{Bytes}
 use Rattle.laws.specs.Read.{formed-fine}
-use Rattle.view.specs.Known.{formed-reading, formed-known}
+use Rattle.laws.specs.Known.{formed-reading, formed-known}
 use Rattle.reader.specs.Tables.{ReadTyped}
 use Rattle.gather.specs.Operands.{Typed}
 

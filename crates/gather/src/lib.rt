@@ -5,7 +5,7 @@ ghost use Prim.Native.Nat.{ℕ, _+_, _≤_, _<_};
 ghost use lib.ListN.{length, take, replicate, getD};
 ghost use Rattle.rules.specs.Basic.{half};
 ghost use Rattle.rules.specs.Table.{routine};
-ghost use Rattle.view.specs.WellRead.{WellRead};
+ghost use Rattle.laws.specs.WellRead.{WellRead};
 ghost use Rattle.laws.specs.Formed.{Formed};
 ghost use Rattle.gather.specs.Notes.{NotedIn};
 ghost use Rattle.gather.specs.Gathering.{Noting};

@@ -19,7 +19,8 @@ use Rattle.rules.specs.Calls.{formed, judged, checking, Left, inferable, Inferr
 use Rattle.rules.specs.Tested.{refused-fine}
 use Rattle.rules.specs.Tests.{false-true, in-range}
 use Rattle.laws.specs.Promises.{FirstBytes, SameCalls, FirstBytesDecide}
-use Rattle.laws.specs.Read.{WellRead, reading-fine}
+use Rattle.laws.specs.WellRead.{WellRead}
+use Rattle.laws.specs.Known.{reading-known}
 
 guard-same : {X : Type 0} (n p : ℕ) (b c : Bool) (go go′ : Unit {0} → Verdict X) → b ≡ c → (b ≡ true → go tt ≡ go′ tt) → guard n p b go ≡ guard n p c go′
 guard-same n p true true go go′ e h = h refl
@@ -81,7 +82,7 @@ module _ {s z : List ℕ} (x : Long s z) where
 
 -- A file that earns none of refusals 1 to 5 has 13,062 bytes at most.
 read-short : {s : List ℕ} {at : Starts} → WellRead s at → length s ≤ 13062
-read-short y = omega (arith, y .atTypes, y .atHomes, y .atExprs, y .atCommands, y .end, y .types .high, y .homes .high, y .exprs .high, y .commands .high)
+read-short y = omega (arith, y .types-at, y .homes-at, y .exprs-at, y .commands-at, y .ends, y .types .few, y .homes .few, y .exprs .few, y .commands .few)
 
 -- A file is all there in its first n bytes, or both are refused, and alike.
 data Cut (s z : List ℕ) : Type 0 where
@@ -94,7 +95,7 @@ module _ (n : ℕ) (s : List ℕ) (far : 13062 < n) where
 
   too-long : 13062 < length s → (v : Verdict Starts) → reading s ≡ v → reading (take n s) ≡ v → Cut s (take n s)
   unfolding formed
-  too-long l (fine at) e f = absurd (omega (arith, read-short (reading-fine s at e)))
+  too-long l (fine at) e f = absurd (omega (arith, read-short (reading-known s at e)))
   too-long l (refused number place) e f = refusedBoth {number = number} {place = place} (rw e) (rw f)
 
   cut : Cut s (take n s)

@@ -8,6 +8,8 @@ pub mod Sound
 pub mod Units
 pub mod Prefix
 pub mod Start
+pub mod WellRead
+pub mod Known
 pub mod Read
 pub mod Depth
 pub mod Forget

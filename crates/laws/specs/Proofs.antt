@@ -23,7 +23,7 @@ use lib.ListN.{length, drop}
 use lib.Seq.{drop-set-lt, drop-append-seam}
 use lib.Dec.{leb, ltb}
 use borrow.Author.Tests.{ltb-true}
-use Rattle.rules.specs.Tests.{false-true}
+use Rattle.rules.specs.Tests.{false-true, fine-same}
 use Rattle.rules.specs.Tested.{refused-fine, passed}
 use Rattle.laws.specs.Promises.{Bytes, Safety, Spending, Prefixes, Surplus, MadeOfNumber, Equal, AllDynamic, Exactly, Demanded, LeastMarking, LeastExists, OneInference, SomeInference, Within, Rows, leftAfter}
 use Rattle.laws.specs.Values.{null-address, valid-same}
@@ -33,7 +33,8 @@ use Rattle.laws.specs.Sound.{exec-ok}
 use Rattle.laws.specs.Units.{exec-spends}
 use Rattle.laws.specs.Prefix.{exec-longer}
 use Rattle.laws.specs.Start.{length-start, start-laid, start-ok}
-use Rattle.laws.specs.Read.{fine-same, fine-again, formed-read, null-ref, formed-fine, judged-fine, acceptable-judged}
+use Rattle.laws.specs.Known.{unrefused, formed-known}
+use Rattle.laws.specs.Read.{null-ref, formed-fine, judged-fine, acceptable-judged}
 use Rattle.laws.specs.Same.{reflexive, symmetric, trans, same-kind, same-bound}
 use Rattle.laws.specs.Dynamic.{all-acceptable}
 use Rattle.laws.specs.Least.{acceptable-meets, meets-acceptable, least-exists, least-unique}
@@ -176,7 +177,7 @@ some-inference s lent b = go (inferable s lent) refl
     go : (v : Verdict Starts) → inferable s lent ≡ v → (x : Left (Unit {0})) × Inferred s lent x
     go (refused n p) e = (_, left e)
     go (fine at) e =
-        let (at′, f, k) = fine-again (formed s) _ at e in
+        let (at′, (f, k)) = unrefused (formed s) _ at e in
         let q : at′ ≡ at = fine-same (passed (leb (routine s at′ .types) (length lent)) _ 9 _ at k .1) in
         made e (least-marking s at b (rw q at f))
 
@@ -188,7 +189,7 @@ rows s m at b j =
       homes = λ g y. f .homed y;
       exprs = λ e l. (f .exprs e l .0, f .exprs e l .1, a .exprs e l);
       commands = λ c l. (f .commands c l .0, f .commands c l .1, a .commands c l);
-      nulls = λ e t l q. null-ref (formed-read (judged-fine s m j .0)) e t l q;
+      nulls = λ e t l q. null-ref (formed-known s at (judged-fine s m j .0)) e t l q;
       typed = λ e l. type-le f e l;
       body = f .some;
     }

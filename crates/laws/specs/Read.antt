@@ -1,111 +1,27 @@
 -- What refusals 1 to 6 leave: a file that earns none stands for a well-formed routine.
 use mathlib.Core.Path.{_≡_, refl, sym, ap, _∙_}
 use mathlib.Core.Bool.{true}
-use Prim.Native.Nat.{ℕ, zero, suc, _+_, _*_, _-_, _≤_, _<_, zero-le}
+use Prim.Native.Nat.{ℕ, zero, suc, _+_, _*_, _-_, _≤_, _<_}
 use native.Mathlib.Nat.{not-suc-le-zero}
 use native.Mathlib.Omega.{arith}
 use mathlib.Core.List.{List, [], _∷_}
-use lib.ListN.{length, getD}
-use lib.Dec.{leb, ltb, eqb}
-use borrow.Author.Tests.{leb-true, ltb-true, eqb-true}
+use lib.ListN.{getD}
+use lib.Dec.{leb, ltb}
+use borrow.Author.Tests.{leb-true, ltb-true}
 use Rattle.rules.specs.declared.Starts.{Starts}
-use Rattle.rules.specs.declared.Section.{Section}
-use Rattle.rules.specs.declared.Section.the-variants.{Types, Homes, Exprs, Commands}
-use Rattle.rules.specs.Basic.{width, half, byte, inRange, Verdict, fine, refused, unlessRefused}
-use Rattle.rules.specs.Table.{Expr, Command, Routine, layout, total, operatorOf, exprOf, exprAt, commandAt, routine, literal, home, cast, null, sum, read, op, skip, seq, store, ifElse, while}
-use Rattle.rules.specs.Reading.{rowBytes, fewest, most, exprGood, commandGood, exprSpare, commandSpare, rowGood, rowRead, rows, section, cells, reading}
-use Rattle.rules.specs.Shape.{homeAt, exprShaped, commandShaped, shape}
+use Rattle.rules.specs.Basic.{width, half, byte, inRange, fine}
+use Rattle.rules.specs.Table.{Expr, Command, Routine, layout, operatorOf, exprOf, exprAt, commandAt, routine, literal, home, cast, null, sum, read, op, skip, seq, store, ifElse, while}
+use Rattle.rules.specs.Reading.{exprGood, commandGood, exprSpare, commandSpare, rowGood, rows, cells}
+use Rattle.rules.specs.Shape.{homeAt}
 use Rattle.rules.specs.Kinds.{Acceptable}
 use Rattle.rules.specs.Valid.{Real}
 use Rattle.rules.specs.Calls.{formed, judged}
-use Rattle.rules.specs.Tests.{false-true, parts-true, by-test, in-range, both-less}
-use Rattle.rules.specs.Tested.{refused-fine, passed, scan-fine, none-bad, kinds-acceptable, acceptable-kinds}
+use Rattle.rules.specs.Tests.{fine-same, false-true, parts-true, by-test, in-range, both-less}
+use Rattle.rules.specs.Tested.{kinds-acceptable, acceptable-kinds}
 use Rattle.laws.specs.Promises.{Bytes}
+use Rattle.laws.specs.WellRead.{WellRead}
+use Rattle.laws.specs.Known.{unrefused, formed-known, formed-shaped}
 use Rattle.laws.specs.Formed.{Fits, CommandFits, Consecutive, last, behind, Formed}
-
--- ---- a section that was read
-
-pub record SectionRead (s : List ℕ) (c : Section) (q : ℕ) : Type 0 where
-  pub low : fewest c ≤ half s q
-  pub high : half s q ≤ most c
-  pub whole : (i : ℕ) → i < half s q → q + 2 + rowBytes c * i + rowBytes c ≤ length s
-  pub good : (i : ℕ) → i < half s q → rowGood s c i (q + 2 + rowBytes c * i) ≡ true
-
-rows-fine : {X : Type 0} (s : List ℕ) (c : Section) (q n : ℕ) (go : Unit {0} → Verdict X) (x : X) → rows s c q 0 n go ≡ fine x
-    → ((i : ℕ) → i < n → (q + rowBytes c * i + rowBytes c ≤ length s) × (rowGood s c i (q + rowBytes c * i) ≡ true)) × (go tt ≡ fine x)
-unfolding rows
-rows-fine s c q n go x h =
-    let (f, g) = scan-fine (λ i. (q + rowBytes c * i + rowBytes c ≤ length s) × (rowGood s c i (q + rowBytes c * i) ≡ true)) _ x row 0 n go h in
-    (λ i l. f i zero-le (omega arith), g)
-  where
-    row : (i : ℕ) (k : Unit {0} → Verdict _) → rowRead s c q i k ≡ fine x
-        → ((q + rowBytes c * i + rowBytes c ≤ length s) × (rowGood s c i (q + rowBytes c * i) ≡ true)) × (k tt ≡ fine x)
-    row i k h =
-        let (a, b) = passed (leb (q + rowBytes c * i + rowBytes c) (length s)) _ 1 (q + rowBytes c * i) x h in
-        let (d, e) = passed (rowGood s c i (q + rowBytes c * i)) _ 3 (q + rowBytes c * i) x b in
-        ((leb-true _ _ a, d), e)
-
-section-fine : {X : Type 0} (s : List ℕ) (c : Section) (q : ℕ) (go : ℕ → ℕ → Verdict X) (x : X) → section s c q go ≡ fine x
-    → SectionRead s c q × (go (q + 2 + rowBytes c * half s q) (half s q) ≡ fine x)
-unfolding section
-section-fine s c q go x h =
-    let (a, b) = passed (leb (q + 2) (length s)) _ 1 q x h in
-    let (d, e) = passed (inRange (fewest c) (half s q) (most c)) _ 2 q x b in
-    let (f, g) = rows-fine s c (q + 2) (half s q) _ x e in
-    let (lo, hi) = in-range (fewest c) (half s q) (most c) d in
-    (record { low = lo; high = hi; whole = λ i l. f i l .0; good = λ i l. f i l .1 }, g)
-
--- ---- what refusals 1 to 5 leave: where the sections stand, and that their rows are in range
-
-pub record WellRead (s : List ℕ) (at : Starts) : Type 0 where
-  pub atTypes : at .types ≡ 0
-  pub atHomes : at .homes ≡ at .types + 2 + 2 * half s (at .types)
-  pub atExprs : at .exprs ≡ at .homes + 2 + 4 * half s (at .homes)
-  pub atCommands : at .commands ≡ at .exprs + 2 + 5 * half s (at .exprs)
-  pub end : at .commands + 2 + 7 * half s (at .commands) ≡ length s
-  pub types : SectionRead s Types (at .types)
-  pub homes : SectionRead s (Homes (half s (at .types))) (at .homes)
-  pub exprs : SectionRead s (Exprs (half s (at .types)) (half s (at .homes))) (at .exprs)
-  pub commands : SectionRead s (Commands (half s (at .exprs))) (at .commands)
-  pub few : total (layout s (at .homes + 2) 1 (half s (at .homes))) ≤ 4096
-
-cells-fine : {X : Type 0} (s : List ℕ) (q so-far from n : ℕ) (go : Unit {0} → Verdict X) (x : X) → so-far ≤ 4096 → cells s q so-far n go ≡ fine x
-    → (so-far + total (layout s q from n) ≤ 4096) × (go tt ≡ fine x)
-unfolding cells
-cells-fine s q so-far from zero go x l h = (omega arith, h)
-cells-fine s q so-far from (suc n) go x l h =
-    let (a, b) = passed (leb (so-far + half s (q + 2)) 4096) _ 5 q x h in
-    let (c, d) = cells-fine s (q + 4) (so-far + half s (q + 2)) (from + half s (q + 2)) n go x (leb-true _ _ a) b in
-    (omega arith, d)
-
-pub fine-same : {X : Type 0} {x y : X} → fine x ≡ fine y → x ≡ y
-fine-same h = cc
-
-pub reading-fine : (s : List ℕ) (at : Starts) → reading s ≡ fine at → WellRead s at
-unfolding reading
-reading-fine s at k =
-    let h = 2 + 2 * half s 0 in
-    let e = h + 2 + 4 * half s h in
-    let c = e + 2 + 5 * half s e in
-    let (ts, k₁) = section-fine s Types 0 _ at k in
-    let (hs, k₂) = section-fine s (Homes (half s 0)) h _ at k₁ in
-    let (es, k₃) = section-fine s (Exprs (half s 0) (half s h)) e _ at k₂ in
-    let (cs, k₄) = section-fine s (Commands (half s e)) c _ at k₃ in
-    let (f, k₅) = passed (eqb (c + 2 + 7 * half s c) (length s)) _ 4 _ at k₄ in
-    let (few, k₆) = cells-fine s (h + 2) 0 1 (half s h) _ at (omega arith) k₅ in
-    rw (← fine-same k₆)
-    (record {
-      atTypes = refl;
-      atHomes = refl;
-      atExprs = refl;
-      atCommands = refl;
-      end = eqb-true _ _ f;
-      types = ts;
-      homes = hs;
-      exprs = es;
-      commands = cs;
-      few = omega (arith, few);
-    })
 
 -- ---- homes
 
@@ -227,54 +143,28 @@ module _ {s : List ℕ} {at : Starts} (read : WellRead s at) where
 
 -- ---- from verdicts
 
-pub shape-fine : {X : Type 0} (r : Routine) (go : Unit {0} → Verdict X) (x : X) → shape r go ≡ fine x
-    → ((e : ℕ) → e < r .exprs → exprShaped r (r .expr e) ≡ true) × ((c : ℕ) → c < r .commands → commandShaped r (r .command c) ≡ true) × (go tt ≡ fine x)
-unfolding shape
-shape-fine r go x h =
-    let (a, b) = none-bad 6 (λ e. exprShaped r (r .expr e)) (r .exprPlace) (r .exprs) _ x h in
-    let (c, d) = none-bad 6 (λ c. commandShaped r (r .command c)) (r .commandPlace) (r .commands) go x b in
-    (a, c, d)
-
-pub fine-again : {X Y : Type 0} (v : Verdict X) (go : X → Verdict Y) (y : Y) → unlessRefused v go ≡ fine y → (x : X) × (v ≡ fine x) × (go x ≡ fine y)
-fine-again (fine x) go y h = (x, refl, h)
-fine-again (refused n p) go y h = refused-fine h
-
--- Refusals 1 to 6 leave a file that was read.
-pub formed-read : {s : List ℕ} {at : Starts} → formed s ≡ fine at → WellRead s at
-unfolding formed
-formed-read {s} {at} h =
-    let (at′, k, k₁) = fine-again (reading s) _ at h in
-    let (es, cs, k₂) = shape-fine (routine s at′) _ at k₁ in
-    rw (← fine-same k₂) (reading-fine s at′ k)
-
--- And a well-formed routine.
+-- A well-formed file stands for a well-formed routine.
 pub formed-fine : {s : List ℕ} {at : Starts} → Bytes s → formed s ≡ fine at → Formed (routine s at)
-unfolding formed
 formed-fine {s} {at} bytes h =
-    let (at′, k, k₁) = fine-again (reading s) _ at h in
-    let (es, cs, k₂) = shape-fine (routine s at′) _ at k₁ in
-    rw (← fine-same k₂) (whole at′ (reading-fine s at′ k) es cs)
-  where
-    whole : (at : Starts) → WellRead s at → ((e : ℕ) → e < half s (at .exprs) → exprShaped (routine s at) (routine s at .expr e) ≡ true)
-        → ((c : ℕ) → c < half s (at .commands) → commandShaped (routine s at) (routine s at .command c) ≡ true) → Formed (routine s at)
-    whole at rows es cs =
-        record {
-          falls = record { by = λ t l. target-falls rows t l };
-          homed = λ {g = g} y. homed rows g y;
-          nowhere = refl;
-          single = refl;
-          consecutive = layout-consecutive s (at .homes + 2) 1 (half s (at .homes));
-          few = rows .few;
-          some = rows .commands .low;
-          exprs = λ e l. (expr-row-fits rows bytes e l, es e l);
-          commands = λ c l. (command-row-fits rows c l, cs c l);
-        }
+    let rows = formed-known s at h in
+    let shaped = formed-shaped s at h in
+    record {
+      falls = record { by = λ t l. target-falls rows t l };
+      homed = λ {g = g} y. homed rows g y;
+      nowhere = refl;
+      single = refl;
+      consecutive = layout-consecutive s (at .homes + 2) 1 (half s (at .homes));
+      few = rows .cells;
+      some = rows .commands .least;
+      exprs = λ e l. (expr-row-fits rows bytes e l, shaped .exprs e l);
+      commands = λ c l. (command-row-fits rows c l, shaped .commands c l);
+    }
 
 -- Refusals 7 and 8 leave an acceptable marking, and refuse no other.
 pub judged-fine : (s m : List ℕ) {at : Starts} → judged s m ≡ fine at → (formed s ≡ fine at) × Acceptable (routine s at) m
 unfolding judged
 judged-fine s m {at} h =
-    let (at′, k, k₁) = fine-again (formed s) _ at h in
+    let (at′, (k, k₁)) = unrefused (formed s) _ at h in
     let (a, k₂) = kinds-acceptable (routine s at′) m _ at k₁ in
     rw (← fine-same k₂) (k, a)
 

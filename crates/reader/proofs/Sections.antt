@@ -17,7 +17,7 @@ use Rattle.rules.specs.declared.Section.the-variants.{Types}
 use Rattle.rules.specs.Basic.{half, inRange, Verdict, fine, refused, guard}
 use Rattle.rules.specs.Reading.{rowBytes, fewest, most, rowGood, rowRead, rows, section, cells, reading}
 use Rattle.rules.specs.Calls.{refusal}
-use Rattle.view.specs.Tests.{in-range}
+use Rattle.rules.specs.Tests.{in-range}
 use Rattle.reader.specs.declared.front.Step.{Step}
 use Rattle.reader.specs.declared.front.Step.the-variants.{Next, No}
 use Rattle.reader.proofs.front.Step as step

@@ -27,9 +27,9 @@ use Rattle.view.specs.declared.HomeRow.{HomeRow}
 use Rattle.view.specs.declared.TypeRow.{TypeRow}
 use Rattle.view.specs.declared.ExprRow.{ExprRow}
 use Rattle.view.specs.declared.CommandRow.{CommandRow}
-use Rattle.view.specs.Tests.{false-true, both-true, both-less, in-range, fine-same}
-use Rattle.view.specs.WellRead.{WellRead}
-use Rattle.view.specs.Known.{reading-known}
+use Rattle.rules.specs.Tests.{false-true, parts-true, both-less, in-range, fine-same}
+use Rattle.laws.specs.WellRead.{WellRead}
+use Rattle.laws.specs.Known.{reading-known}
 use Rattle.view.specs.Rows.{homeRow, typeRow, exprRow, commandRow, HomeAsked, TypeAsked}
 use Rattle.view.specs.Tags.{expr-good-op, command-none}
 use Rattle.view.specs.Means.{expr-means, command-means, home-has, expr-in-range, command-in-range}
@@ -155,7 +155,7 @@ module _ {s : List ℕ} {at : Starts} {ty : List ℕ} {c : ℕ} {row : CommandRo
 
   pub test-below : 3 ≤ row .tag → row .a < half s (at .exprs)
   test-below l = test-tag l _
-      (λ h. ltb-true _ _ (both-true (ltb (row .a) (half s (at .exprs))) _ (command-good-tag 3 h) .0))
+      (λ h. ltb-true _ _ (parts-true (ltb (row .a) (half s (at .exprs))) _ (command-good-tag 3 h) .0))
       (λ h. both-less (row .a) (row .b) _ _ (command-good-tag 4 h) .0)
 
   pub in-all : (a : ℕ) → a < half s (at .exprs) → a < 1024

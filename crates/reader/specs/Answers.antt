@@ -9,8 +9,8 @@ use Rattle.rules.specs.declared.ReadAnswer.the-variants.{WellFormed}
 use Rattle.rules.specs.Basic.{fine}
 use Rattle.rules.specs.Table.{routine}
 use Rattle.rules.specs.Calls.{readSays, formed}
-use Rattle.view.specs.WellRead.{WellRead}
-use Rattle.view.specs.Known.{Shaped, formed-reading, formed-known, formed-shaped}
+use Rattle.laws.specs.WellRead.{WellRead}
+use Rattle.laws.specs.Known.{Shaped, formed-reading, formed-known, formed-shaped}
 use Rattle.reader.specs.Tables.{TypedTo, ReadTyped}
 
 module _ (s : List ℕ) (at : Starts) (r : ReadAnswer) (is : r ≡ WellFormed at) where

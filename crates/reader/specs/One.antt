@@ -14,7 +14,7 @@ use Rattle.rules.specs.Table.{Routine}
 use Rattle.rules.specs.Reading.{reading}
 use Rattle.rules.specs.Calls.{readSays}
 use Rattle.rules.specs.Tested.{refused-fine}
-use Rattle.view.specs.Tests.{fine-same}
+use Rattle.rules.specs.Tests.{fine-same}
 use Rattle.reader.specs.Tables.{TypeTable, ReadTyped}
 
 one-refusal : (n m : Refusal) → _≡_ {A = Verdict Starts} (refused (n .number) (n .place)) (refused (m .number) (m .place)) → n ≡ m

@@ -11,7 +11,7 @@ use Rattle.rules.specs.Table.{Routine, routine}
 use Rattle.rules.specs.Reading.{reading}
 use Rattle.rules.specs.Shape.{typeOf, exprShaped, commandShaped}
 use Rattle.rules.specs.Calls.{readSays, formed}
-use Rattle.view.specs.WellRead.{WellRead}
+use Rattle.laws.specs.WellRead.{WellRead}
 
 -- ---- expression rows and command rows as one: `true` is for commands
 

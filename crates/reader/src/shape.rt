@@ -16,7 +16,7 @@ ghost use Rattle.rules.specs.Basic.{fine};
 ghost use Rattle.rules.specs.Table.{routine};
 ghost use Rattle.rules.specs.Shape.{typeOf, exprShaped, commandShaped, shape};
 ghost use Rattle.rules.specs.Calls.{readSays};
-ghost use Rattle.view.specs.WellRead.{WellRead};
+ghost use Rattle.laws.specs.WellRead.{WellRead};
 ghost use Rattle.reader.specs.Tables.{TypedTo, TypeTable, countOf, shapedAt, placeOf, misshapen};
 
 // The type of expression row `e`, where `ty` has those of earlier rows.

@@ -1,6 +1,6 @@
 -- Tests that hold, and tests that branch.
 use mathlib.Core.Bool.{Bool, true, false, _&&_}
-use Rattle.rules.specs.Basic.{choose, inRange}
+use Rattle.rules.specs.Basic.{choose, inRange, Verdict, fine}
 use mathlib.Core.Path.{_≡_, refl}
 use Prim.Native.Nat.{ℕ, _≤_, _<_}
 use native.Mathlib.Omega.{arith}
@@ -26,3 +26,6 @@ in-range lo n hi h = let (a, b) = parts-true (leb lo n) (leb n hi) h in (leb-tru
 
 pub both-less : (a b i j : ℕ) → (ltb a i && ltb b j) ≡ true → (a < i) × (b < j)
 both-less a b i j h = let (p, q) = parts-true (ltb a i) (ltb b j) h in (ltb-true a i p, ltb-true b j q)
+
+pub fine-same : {X : Type 0} {x y : X} → _≡_ {A = Verdict X} (fine x) (fine y) → x ≡ y
+fine-same h = cc

@@ -13,8 +13,8 @@ use Rattle.rules.specs.Basic.{half}
 use Rattle.rules.specs.Table.{Home, layout, exprOf, commandOf, routine}
 use Rattle.rules.specs.Reading.{rowGood, exprSpare, exprGood, commandSpare, commandGood}
 use Rattle.rules.specs.Shape.{homeAt}
-use Rattle.view.specs.Tests.{both-true, in-range}
-use Rattle.view.specs.WellRead.{WellRead}
+use Rattle.rules.specs.Tests.{parts-true, in-range}
+use Rattle.laws.specs.WellRead.{WellRead}
 use Rattle.view.specs.declared.ExprRow.{ExprRow}
 use Rattle.view.specs.declared.CommandRow.{CommandRow}
 use Rattle.view.specs.Rows.{homePlace, exprRow, commandRow}
@@ -85,26 +85,26 @@ module _ (s : List ℕ) (at : Starts) (known : WellRead s at) where
   unfolding rowGood
   home-in-range zero h l = absurd (not-suc-le-zero h)
   home-in-range (suc g) h l =
-      let (a, b) = both-true _ _ (known .homes .good g l) in
+      let (a, b) = parts-true _ _ (known .homes .good g l) in
       rw (sub-one (suc g)) (in-range 1 _ _ a, in-range 1 _ _ b)
 
   -- The fields that an expression row does not mention are zero, and what it names is in range, by its form.
   pub expr-spare : (e : ℕ) → e < half s (at .exprs) → exprSpare (exprRow s at e .tag) (exprRow s at e .a) (exprRow s at e .b) ≡ true
   unfolding rowGood
-  expr-spare e l = both-true (exprSpare (exprRow s at e .tag) (exprRow s at e .a) (exprRow s at e .b)) _ (known .exprs .good e l) .0
+  expr-spare e l = parts-true (exprSpare (exprRow s at e .tag) (exprRow s at e .a) (exprRow s at e .b)) _ (known .exprs .good e l) .0
 
   pub expr-in-range : (e : ℕ) → e < half s (at .exprs) → exprGood (half s (at .types)) (half s (at .homes)) e (routine s at .expr e) ≡ true
   unfolding rowGood
-  expr-in-range e l = both-true (exprSpare (exprRow s at e .tag) (exprRow s at e .a) (exprRow s at e .b)) _ (known .exprs .good e l) .1
+  expr-in-range e l = parts-true (exprSpare (exprRow s at e .tag) (exprRow s at e .a) (exprRow s at e .b)) _ (known .exprs .good e l) .1
 
   -- The same of a command row.
   pub command-spare : (c : ℕ) → c < half s (at .commands)
       → commandSpare (commandRow s at c .tag) (commandRow s at c .a) (commandRow s at c .b) (commandRow s at c .c) ≡ true
   unfolding rowGood
   command-spare c l =
-      both-true (commandSpare (commandRow s at c .tag) (commandRow s at c .a) (commandRow s at c .b) (commandRow s at c .c)) _ (known .commands .good c l) .0
+      parts-true (commandSpare (commandRow s at c .tag) (commandRow s at c .a) (commandRow s at c .b) (commandRow s at c .c)) _ (known .commands .good c l) .0
 
   pub command-in-range : (c : ℕ) → c < half s (at .commands) → commandGood (half s (at .exprs)) c (routine s at .command c) ≡ true
   unfolding rowGood
   command-in-range c l =
-      both-true (commandSpare (commandRow s at c .tag) (commandRow s at c .a) (commandRow s at c .b) (commandRow s at c .c)) _ (known .commands .good c l) .1
+      parts-true (commandSpare (commandRow s at c .tag) (commandRow s at c .a) (commandRow s at c .b) (commandRow s at c .c)) _ (known .commands .good c l) .1

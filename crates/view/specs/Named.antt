@@ -9,8 +9,8 @@ use Rattle.rules.specs.declared.Starts.{Starts}
 use Rattle.rules.specs.Basic.{half}
 use Rattle.rules.specs.Table.{Operator, Expr, Command, routine, literal, home, cast, null, sum, read, op, skip, seq, store, ifElse, while}
 use Rattle.rules.specs.Reading.{exprGood, commandGood}
-use Rattle.view.specs.Tests.{false-true, both-true, both-less, in-range}
-use Rattle.view.specs.WellRead.{WellRead}
+use Rattle.rules.specs.Tests.{false-true, parts-true, both-less, in-range}
+use Rattle.laws.specs.WellRead.{WellRead}
 use Rattle.view.specs.Means.{expr-in-range, command-in-range}
 
 -- Expression row e of a file with T types and H homes.
@@ -26,7 +26,7 @@ pub data ExprNames (T H e : ℕ) : Expr → Type 0 where
 expr-names-good : (T H e : ℕ) (x : Expr) → exprGood T H e x ≡ true → ExprNames T H e x
 expr-names-good T H e (literal n) h = of-literal
 expr-names-good T H e (home g) h = let (a, b) = in-range 1 g H h in of-home a b
-expr-names-good T H e (cast a t) h = let (p, q) = both-true (ltb a e) _ h in of-cast (ltb-true _ _ p) (leb-true _ _ q)
+expr-names-good T H e (cast a t) h = let (p, q) = parts-true (ltb a e) _ h in of-cast (ltb-true _ _ p) (leb-true _ _ q)
 expr-names-good T H e (null t) h = let (a, b) = in-range 1 t T h in of-null a b
 expr-names-good T H e (sum a b) h = let (p, q) = both-less a b e e h in of-sum p q
 expr-names-good T H e (read a) h = of-read (ltb-true _ _ h)
@@ -46,7 +46,7 @@ command-names-good E c skip h = of-skip
 command-names-good E c (seq a b) h = let (p, q) = both-less a b c c h in of-seq p q
 command-names-good E c (store a b) h = let (p, q) = both-less a b E E h in of-store p q
 command-names-good E c (ifElse a b d) h =
-    let (p, q) = both-true (ltb a E) _ h in
+    let (p, q) = parts-true (ltb a E) _ h in
     let (r, s) = both-less b d c c q in
     of-if (ltb-true _ _ p) r s
 command-names-good E c (while a b) h = let (p, q) = both-less a b E c h in of-while p q

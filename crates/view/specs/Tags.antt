@@ -8,7 +8,7 @@ use lib.ListN.{List·getD-eq-default}
 use borrow.Author.Tests.{lt-ltb, le-ltb}
 use Rattle.rules.specs.Table.{Expr, Command, operatorOf, exprOf, commandOf, op}
 use Rattle.rules.specs.Reading.{exprSpare, exprGood, commandSpare}
-use Rattle.view.specs.Tests.{false-true}
+use Rattle.rules.specs.Tests.{false-true}
 
 module _ (n a b : ℕ) where
   -- Tags 7 to 15.

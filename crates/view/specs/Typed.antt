@@ -12,8 +12,8 @@ use Rattle.rules.specs.Basic.{half}
 use Rattle.rules.specs.Table.{Expr, Routine, routine, literal, home, cast, null, sum, read, op}
 use Rattle.rules.specs.Reading.{exprGood}
 use Rattle.rules.specs.Shape.{homeAt, rowType, typeBelow, typeOf}
-use Rattle.view.specs.Tests.{both-true, both-less, in-range}
-use Rattle.view.specs.WellRead.{WellRead}
+use Rattle.rules.specs.Tests.{parts-true, both-less, in-range}
+use Rattle.laws.specs.WellRead.{WellRead}
 use Rattle.view.specs.Means.{home-has, home-in-range, target-below, expr-in-range}
 
 -- A row in range asks only for the types of earlier rows.
@@ -56,7 +56,7 @@ module _ (s : List ℕ) (at : Starts) (known : WellRead s at) where
       → rowType (routine s at) ty x ≤ half s (at .types)
   rule-type e ty f (literal n) g = zero-le
   rule-type e ty f (home h) g = let (a, b) = in-range 1 h _ g in home-type h a b
-  rule-type e ty f (cast a t) g = leb-true _ _ (both-true (ltb a e) _ g .1)
+  rule-type e ty f (cast a t) g = leb-true _ _ (parts-true (ltb a e) _ g .1)
   rule-type e ty f (null t) g = in-range 1 t _ g .1
   rule-type e ty f (sum a b) g = f a (both-less a b e e g .0)
   rule-type e ty f (read a) g = target-type (ty a) (f a (ltb-true a e g))

@@ -5,7 +5,7 @@ ghost use mathlib.Core.Path.{_≡_};
 ghost use Prim.Native.Nat.{_+_, _≤_, _<_};
 ghost use lib.ListN.{length};
 ghost use Rattle.rules.specs.Basic.{half};
-ghost use Rattle.view.specs.WellRead.{WellRead};
+ghost use Rattle.laws.specs.WellRead.{WellRead};
 ghost use Rattle.view.specs.Rows.{typeRow, homeRow, exprRow, commandRow, countsOf, TypeAsked, HomeAsked, ExprAsked, CommandAsked};
 
 // A type row: the type that a reference of this type points to.

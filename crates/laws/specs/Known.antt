@@ -17,8 +17,8 @@ use Rattle.rules.specs.Reading.{rowBytes, fewest, most, rowGood, rowRead, rows,
 use Rattle.rules.specs.Shape.{exprShaped, commandShaped, shape}
 use Rattle.rules.specs.Calls.{formed}
 use Rattle.rules.specs.Tested.{refused-fine, passed, scan-fine, none-bad}
-use Rattle.view.specs.Tests.{in-range, fine-same}
-use Rattle.view.specs.WellRead.{Whole, WellRead}
+use Rattle.rules.specs.Tests.{in-range, fine-same}
+use Rattle.laws.specs.WellRead.{Whole, WellRead}
 
 -- ---- refusals 1 to 3: a section
 
@@ -120,7 +120,7 @@ shape-known r go x h =
     (record { exprs = a; commands = d }, e)
 
 -- A verdict that was not refused was fine before.
-unrefused : {X Y : Type 0} (v : Verdict X) (go : X → Verdict Y) (y : Y) → unlessRefused v go ≡ fine y → (x : X) × ((v ≡ fine x) × (go x ≡ fine y))
+pub unrefused : {X Y : Type 0} (v : Verdict X) (go : X → Verdict Y) (y : Y) → unlessRefused v go ≡ fine y → (x : X) × ((v ≡ fine x) × (go x ≡ fine y))
 unrefused (fine x) go y h = (x, (refl, h))
 unrefused (refused n p) go y h = refused-fine h
 
