@@ -54,7 +54,7 @@ module _ (e f : ℕ) (x : Found) (n : ℕ) (r : Answer) where
 
 -- ---- one operand
 
-found-gives : (u : Ruled ℕ) (a : ℕ) → foundOf u ≡ Is a → u ≡ gives a
+pub found-gives : (u : Ruled ℕ) (a : ℕ) → foundOf u ≡ Is a → u ≡ gives a
 found-gives (gives n) a h = let e : n ≡ a = cc in ap (λ x. gives x) e
 found-gives (fails c) a h = let z : _≡_ {A = ℕ} 0 1 = cc in absurd (omega arith)
 found-gives stuck a h = let z : _≡_ {A = ℕ} 0 1 = cc in absurd (omega arith)

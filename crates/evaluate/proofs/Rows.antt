@@ -223,7 +223,7 @@ fine-of p f (gives v) h = given
 fine-of p f (fails c) h = failed
 fine-of p f stuck (is-stop y) = elim y [ ]
 
-value-of : {P : Value → Type 0} {v : Value} {f : ℕ} → Told-is P (got v f) → P v
+pub value-of : {P : Value → Type 0} {v : Value} {f : ℕ} → Told-is P (got v f) → P v
 value-of (is-value y) = y
 
 below-or : (o : ℕ) → (o < 9) ⊎ (9 ≤ o)
