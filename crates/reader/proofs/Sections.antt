@@ -1,0 +1,192 @@
+-- The reading, front to back: a loop over a section's rows, a section, the cells, and one step after the other.
+use mathlib.Core.Path.{_≡_, refl, sym, ap, _∙_}
+use mathlib.Core.Bool.{Bool, true, false}
+use Prim.Native.Nat.{ℕ, suc, _+_, _*_, _-_, _≤_, _<_}
+use native.Mathlib.Nat.{mul-suc}
+use native.Mathlib.Numerals.{add-one}
+use native.Mathlib.Omega.{arith}
+use mathlib.Core.List.{List}
+use lib.ListN.{length}
+use lib.Dec.{leb}
+use borrow.Author.Tests.{le-leb, lt-leb, eq-eqb, ne-eqb}
+use denote.Enum.Declared.{tagOf}
+use Rattle.rules.specs.declared.Starts.{Starts}
+use Rattle.rules.specs.declared.Refusal.{Refusal}
+use Rattle.rules.specs.declared.Section.{Section}
+use Rattle.rules.specs.declared.Section.the-variants.{Types}
+use Rattle.rules.specs.Basic.{half, inRange, Verdict, fine, refused, guard}
+use Rattle.rules.specs.Reading.{rowBytes, fewest, most, rowGood, rowRead, rows, section, cells, reading}
+use Rattle.rules.specs.Calls.{refusal}
+use Rattle.view.specs.Tests.{in-range}
+use Rattle.reader.specs.declared.front.Step.{Step}
+use Rattle.reader.specs.declared.front.Step.the-variants.{Next, No}
+use Rattle.reader.proofs.front.Step as step
+use Rattle.reader.specs.Steps.{follow, RowsRead, SectionRead, CellsRead, fromEnd, fromHomes}
+
+abbrev pub no : ℕ → ℕ → Step
+no k p = No (record { number = k; place = p })
+
+no-next : {X : Type 0} {r : Step} {k p at n : ℕ} → r ≡ no k p → r ≡ Next at n → X
+no-next h e = let z : _≡_ {A = ℕ} 0 1 = cc in absurd (omega arith)
+
+-- ---- the loop over a section's rows
+
+-- At row i of n, at place `at`: the rest of the rows is judged as all of them are.
+pub record RowsSoFar (s : List ℕ) (c : Section) (q n w i at : ℕ) : Type 0 where
+  pub rest : (go : Unit {0} → Verdict Starts) → rows s c q 0 n go ≡ rows s c q i (n - i) go
+  pub width : w ≡ rowBytes c
+  pub narrow : w ≤ 7
+  pub within : i ≤ n
+  pub place : at ≡ q + w * i
+  pub near : at ≤ q + 7 * i
+  pub inside : at ≤ length s
+
+pub rows-start : (s : List ℕ) (c : Section) (q n w : ℕ) → w ≡ rowBytes c → w ≤ 7 → q ≤ length s → RowsSoFar s c q n w 0 q
+rows-start s c q n w e l h =
+    let d : n - 0 ≡ n = omega arith in
+    record { rest = λ go. rw d; width = e; narrow = l; within = omega arith; place = omega arith; near = omega arith; inside = h }
+
+module _ {s : List ℕ} {c : Section} {q n w i at : ℕ} (so-far : RowsSoFar s c q n w i at) where
+  refuses : (k : ℕ) {r : Step} → r ≡ no k at → ((go : Unit {0} → Verdict Starts) → rows s c q i (n - i) go ≡ refused k at) → RowsRead s c q n r
+  refuses k e h = record {
+    means = λ go. so-far .rest (λ _. go (q + rowBytes c * n) n) ∙ h (λ _. go (q + rowBytes c * n) n) ∙ ap (λ x. follow x go) (sym e);
+    passed = λ at′ m d. no-next e d;
+  }
+
+  module _ (less : i < n) where
+    -- one row off the front
+    one-row : (go : Unit {0} → Verdict Starts) → rows s c q i (n - i) go ≡ rowRead s c q i λ _. rows s c q (i + 1) (n - (i + 1)) go
+    unfolding rows
+    one-row go = let e : n - i ≡ suc (n - (i + 1)) = omega arith in rw (e, add-one)
+
+    at-row : q + rowBytes c * i ≡ at
+    at-row = rw (← so-far .width) (sym (so-far .place))
+
+    pub row-short : {r : Step} → r ≡ no 1 at → length s < at + w → RowsRead s c q n r
+    row-short e h = refuses 1 e (λ go. one-row go ∙ rw (at-row, ← so-far .width, lt-leb (at + w) (length s) h))
+
+    module _ (whole : at + w ≤ length s) where
+      pub row-bad : {r : Step} → r ≡ no 3 at → rowGood s c i at ≡ false → RowsRead s c q n r
+      row-bad e g = refuses 3 e (λ go. one-row go ∙ rw (at-row, ← so-far .width, le-leb (at + w) (length s) whole, g))
+
+      pub row-passed : rowGood s c i at ≡ true → RowsSoFar s c q n w (i + 1) (at + w)
+      row-passed g = record {
+        rest = λ go. so-far .rest go ∙ one-row go ∙ rw (at-row, ← so-far .width, le-leb (at + w) (length s) whole, g);
+        width = so-far .width;
+        narrow = so-far .narrow;
+        within = omega arith;
+        place = rw (so-far .place, add-one, mul-suc) (omega arith);
+        near = omega arith;
+        inside = whole;
+      }
+
+  no-rows : (go : Unit {0} → Verdict Starts) → n ≤ i → rows s c q i (n - i) go ≡ go tt
+  unfolding rows
+  no-rows go h = let e : n - i ≡ 0 = omega arith in rw e
+
+  pub rows-passed : n ≤ i → RowsRead s c q n (Next at n)
+  rows-passed g =
+      let e : i ≡ n = omega arith in
+      let f : at ≡ q + rowBytes c * n = rw (← so-far .width, ← e) (so-far .place) in
+      record {
+        means = λ go. so-far .rest (λ _. go (q + rowBytes c * n) n) ∙ no-rows (λ _. go (q + rowBytes c * n) n) g ∙ ap (λ x. go x n) (sym f);
+        passed = λ at′ m d. let x : at ≡ at′ = cc in let y : n ≡ m = cc in (rw (← x) f, sym y, omega arith, omega arith);
+      }
+
+-- ---- a section
+
+module _ (s : List ℕ) (c : Section) (q : ℕ) where
+  pub section-short : (r : Step) → r ≡ no 1 q → length s < q + 2 → SectionRead s c q r
+  unfolding section
+  section-short r e h = record { means = λ go. rw (lt-leb (q + 2) (length s) h) (ap (λ x. follow x go) (sym e)); passed = λ at n d. no-next e d }
+
+  module _ (n low high : ℕ) (b : Bool) (whole : q + 2 ≤ length s) (count : n ≡ half s q) (least : low ≡ fewest c) (limit : high ≡ most c) (test : b ≡ inRange low n high) where
+    tested : (x : Bool) → b ≡ x → inRange (fewest c) (half s q) (most c) ≡ x
+    tested x h = rw (← least, ← limit, ← count) (sym test ∙ h)
+
+    pub section-count : (r : Step) → r ≡ no 2 q → b ≡ false → SectionRead s c q r
+    unfolding section
+    section-count r e h =
+        let k : inRange (fewest c) (half s q) (most c) ≡ false = tested false h in
+        record { means = λ go. rw (le-leb (q + 2) (length s) whole, k) (ap (λ x. follow x go) (sym e)); passed = λ at m d. no-next e d }
+
+    pub few-rows : b ≡ true → n ≤ high
+    few-rows h = in-range low n high (sym test ∙ h) .1
+
+    pub section-rows : (r : Step) → high ≤ 1024 → b ≡ true → RowsRead s c (q + 2) n r → SectionRead s c q r
+    unfolding section
+    section-rows r small h read =
+        let k : inRange (fewest c) (half s q) (most c) ≡ true = tested true h in
+        let l : n ≤ high = few-rows h in
+        record {
+          means = λ go. rw (le-leb (q + 2) (length s) whole, k, ← count) (read .means go);
+          passed = λ at m d.
+              let (x, y, u, v) = read .passed at m d in
+              (rw y x, v, omega arith, omega arith);
+        }
+
+-- ---- the cells
+
+-- At home i of n, whose row is at place `at`, with the cells of those before.
+pub record CellsSoFar (s : List ℕ) (q n i at before : ℕ) : Type 0 where
+  pub rest : (go : Unit {0} → Verdict Starts) → cells s q 0 n go ≡ cells s at before (n - i) go
+  pub within : i ≤ n
+  pub place : at ≡ q + 4 * i
+  pub few : before ≤ 4096
+
+pub cells-start : (s : List ℕ) (q n : ℕ) → CellsSoFar s q n 0 q 0
+cells-start s q n =
+    let e : n - 0 ≡ n = omega arith in
+    record { rest = λ go. rw e; within = omega arith; place = omega arith; few = omega arith }
+
+module _ {s : List ℕ} {q n i at before : ℕ} (so-far : CellsSoFar s q n i at before) where
+  module _ (less : i < n) {size : ℕ} (read : size ≡ half s (at + 2)) where
+    one-home : (go : Unit {0} → Verdict Starts) → cells s at before (n - i) go ≡ guard 5 at (leb (before + size) 4096) λ _. cells s (at + 4) (before + size) (n - (i + 1)) go
+    unfolding cells
+    one-home go = let e : n - i ≡ suc (n - (i + 1)) = omega arith in rw (e, read)
+
+    pub home-over : {r : Step} → r ≡ no 5 at → 4096 < before + size → CellsRead s q n r
+    home-over e h = record { means = λ go. so-far .rest go ∙ one-home go ∙ rw (lt-leb (before + size) 4096 h) (ap (λ x. follow x (λ _ _. go tt)) (sym e)) }
+
+    pub home-fits : before + size ≤ 4096 → CellsSoFar s q n (i + 1) (at + 4) (before + size)
+    home-fits h = record {
+      rest = λ go. so-far .rest go ∙ one-home go ∙ rw (le-leb (before + size) 4096 h);
+      within = omega arith;
+      place = omega arith;
+      few = h;
+    }
+
+  pub no-homes : n ≤ i → CellsRead s q n (Next at n)
+  unfolding cells
+  no-homes h = let e : n - i ≡ 0 = omega arith in record { means = λ go. so-far .rest go ∙ rw e }
+
+-- ---- one step after the other
+
+-- the reading so far, `all`, goes on behind a section that is passed, and ends with one that is not
+pub goes : (s : List ℕ) (c : Section) (q : ℕ) {r : Step} {at n : ℕ} (go : ℕ → ℕ → Verdict Starts) (v : Verdict Starts) → SectionRead s c q r → r ≡ Next at n → v ≡ go at n → v ≡ section s c q go
+goes s c q go v read e h = h ∙ ap (λ x. follow x go) (sym e) ∙ sym (read .means go)
+
+pub halts : (s : List ℕ) (c : Section) (q : ℕ) {r : Step} {m : Refusal} (go : ℕ → ℕ → Verdict Starts) → SectionRead s c q r → r ≡ No m → refusal m ≡ section s c q go
+halts s c q go read e = ap (λ x. follow x go) (sym e) ∙ sym (read .means go)
+
+module _ (s : List ℕ) (h e c end homes : ℕ) where
+  pub spare-bytes : (end ≡ length s → ⊥) → refused 4 end ≡ fromEnd s h e c end homes
+  spare-bytes z = sym (rw (ne-eqb end (length s) z))
+
+  module _ (z : end ≡ length s) {r : Step} (read : CellsRead s (h + 2) homes r) where
+    at-end : fromEnd s h e c end homes ≡ follow r (λ _ _. fine (record { types = 0; homes = h; exprs = e; commands = c }))
+    at-end = rw (eq-eqb end (length s) z) (read .means _)
+
+    pub cells-halt : {m : Refusal} → r ≡ No m → refusal m ≡ fromEnd s h e c end homes
+    cells-halt k = sym (at-end ∙ ap (λ x. follow x (λ _ _. fine (record { types = 0; homes = h; exprs = e; commands = c }))) k)
+
+    pub all-read : tagOf step.the-type r ≡ 0 → fine (record { types = 0; homes = h; exprs = e; commands = c }) ≡ fromEnd s h e c end homes
+    all-read k = sym (at-end ∙ passes r k)
+      where
+        passes : (r : Step) {v : Verdict Starts} → tagOf step.the-type r ≡ 0 → follow r (λ _ _. v) ≡ v
+        passes (Next at n) k = refl
+        passes (No m) k = absurd (omega arith)
+
+pub reading-is : (s : List ℕ) → reading s ≡ section s Types 0 (λ h types. fromHomes s h types)
+unfolding reading
+reading-is s = refl

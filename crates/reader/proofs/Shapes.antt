@@ -1,0 +1,337 @@
+-- The table of types and refusal 6 by it: what a row in hand says of its type and of its operands, by its tag, and the loops over rows.
+use mathlib.Core.Path.{_≡_, refl, sym, ap, _∙_}
+use mathlib.Core.Bool.{Bool, true, false, _&&_}
+use Prim.Native.Nat.{ℕ, zero, suc, _+_, _-_, _≤_, _<_}
+use native.Mathlib.Decide.{decLe}
+use native.Mathlib.Nat.{not-suc-le-zero}
+use native.Mathlib.Numerals.{add-one}
+use native.Mathlib.Omega.{arith}
+use mathlib.Core.List.{List}
+use lib.ListN.{length, getD, set, length-set}
+use lib.Seq.{getD-set-same, getD-set-other}
+use lib.Dec.{ltb, eqb}
+use borrow.Author.Tests.{ltb-true}
+use borrow.Author.Count.{below-more}
+use denote.Enum.Declared.{tagOf}
+use Rattle.rules.proofs.ReadAnswer as answers
+use Rattle.rules.specs.declared.Starts.{Starts}
+use Rattle.rules.specs.declared.ReadAnswer.{ReadAnswer}
+use Rattle.rules.specs.declared.ReadAnswer.the-variants.{WellFormed, Refused}
+use Rattle.rules.specs.Basic.{half, Verdict, fine, refused, unlessRefused, guard}
+use Rattle.rules.specs.Table.{Routine, routine, operatorOf, exprOf, commandOf, op}
+use Rattle.rules.specs.Reading.{exprGood, commandGood, reading}
+use Rattle.rules.specs.Shape.{rowType, typeOf, exprShaped, commandShaped, shape}
+use Rattle.rules.specs.Calls.{readSays, formed}
+use Rattle.view.specs.declared.HomeRow.{HomeRow}
+use Rattle.view.specs.declared.TypeRow.{TypeRow}
+use Rattle.view.specs.declared.ExprRow.{ExprRow}
+use Rattle.view.specs.declared.CommandRow.{CommandRow}
+use Rattle.view.specs.Tests.{false-true, both-true, both-less, in-range}
+use Rattle.view.specs.WellRead.{WellRead}
+use Rattle.view.specs.Known.{reading-known}
+use Rattle.view.specs.Rows.{homeRow, typeRow, exprRow, commandRow, HomeAsked, TypeAsked}
+use Rattle.view.specs.Tags.{expr-good-op, command-none}
+use Rattle.view.specs.Means.{expr-means, command-means, home-has, expr-in-range, command-in-range}
+use Rattle.view.specs.Typed.{type-by-rule, type-in-range}
+use Rattle.reader.specs.Tables.{TypedTo, TypeTable, countOf, shapedAt, placeOf, misshapen, ReadTyped}
+
+-- ---- an expression row in hand, with a table that has the types of those before it
+
+module _ {s : List ℕ} {at : Starts} {n : ℕ} {ty : List ℕ} {e : ℕ} {row : ExprRow} (typed : TypedTo s at n ty) (enough : e ≤ n) (less : e < half s (at .exprs)) (is : row ≡ exprRow s at e) where
+  good : exprGood (half s (at .types)) (half s (at .homes)) e (exprOf (row .tag) (row .a) (row .b)) ≡ true
+  good = ap (λ x. exprGood (half s (at .types)) (half s (at .homes)) e x) (expr-means s at e row is) ∙ expr-in-range s at (typed .file) e less
+
+  good-tag : (k : ℕ) → row .tag ≡ k → exprGood (half s (at .types)) (half s (at .homes)) e (exprOf k (row .a) (row .b)) ≡ true
+  good-tag k h = rw h at good
+
+  operator : 7 ≤ row .tag → exprOf (row .tag) (row .a) (row .b) ≡ op (operatorOf (row .tag - 16)) (row .a) (row .b)
+  operator h = expr-good-op (row .tag) (row .a) (row .b) _ _ e h good
+
+  -- ---- what it names
+
+  pub home-asked : row .tag ≡ 1 → HomeAsked s at (row .a)
+  home-asked h = let (low, high) = in-range 1 (row .a) _ (good-tag 1 h) in record { file = typed .file; first = low; row = high }
+
+  pub sum-below : row .tag ≡ 5 → (row .a < e) × (row .b < e)
+  sum-below h = both-less (row .a) (row .b) e e (good-tag 5 h)
+
+  pub read-below : row .tag ≡ 6 → row .a < e
+  read-below h = ltb-true (row .a) e (good-tag 6 h)
+
+  pub operator-below : 7 ≤ row .tag → (row .a < e) × (row .b < e)
+  operator-below h = both-less (row .a) (row .b) e e (sym (ap (λ x. exprGood (half s (at .types)) (half s (at .homes)) e x) (operator h)) ∙ good)
+
+  -- an earlier row is in the table
+  pub in-table : (a : ℕ) → a < e → a < 1024
+  in-table a h = omega (arith, typed .file .exprs .few)
+
+  pub read-asked : row .tag ≡ 6 → TypeAsked s at (getD ty (row .a) 0)
+  read-asked h =
+      let l : row .a < e = read-below h in
+      record { file = typed .file; row = omega (arith, typed .types (row .a) (omega arith), type-in-range s at (typed .file) (row .a) (omega arith)) }
+
+  -- ---- its type
+
+  by-rule : (v : ℕ) → v ≡ rowType (routine s at) (λ k. getD ty k 0) (exprOf (row .tag) (row .a) (row .b)) → v ≡ typeOf (routine s at) e
+  by-rule v h =
+      h ∙ ap (λ x. rowType (routine s at) (λ k. getD ty k 0) x) (expr-means s at e row is)
+      ∙ type-by-rule s at (typed .file) (λ k. getD ty k 0) e less (λ a l. typed .types a (omega arith))
+
+  pub type-tag : (k v : ℕ) → row .tag ≡ k → v ≡ rowType (routine s at) (λ k. getD ty k 0) (exprOf k (row .a) (row .b)) → v ≡ typeOf (routine s at) e
+  type-tag k v h g = by-rule v (rw h g)
+
+  pub type-home : {r : HomeRow} → row .tag ≡ 1 → r ≡ homeRow s at (row .a) → r .ty ≡ typeOf (routine s at) e
+  type-home {r} h g =
+      let asked = home-asked h in
+      type-tag 1 (r .ty) h (ap (λ (x : HomeRow). x .ty) g ∙ home-has s at (row .a) (asked .first) (asked .row) .type)
+
+  pub type-read : {r : TypeRow} → row .tag ≡ 6 → r ≡ typeRow s at (getD ty (row .a) 0) → r .target ≡ typeOf (routine s at) e
+  type-read {r} h g = type-tag 6 (r .target) h (ap (λ (x : TypeRow). x .target) g)
+
+  pub type-rest : (row .tag ≡ 1 → ⊥) → (row .tag ≡ 3 → ⊥) → (row .tag ≡ 4 → ⊥) → (row .tag ≡ 5 → ⊥) → (row .tag ≡ 6 → ⊥) → 0 ≡ typeOf (routine s at) e
+  type-rest o t f v x = elim (decLe 7 (row .tag)) [
+    | yes k ↦ by-rule 0 (sym (ap (λ y. rowType (routine s at) (λ k. getD ty k 0) y) (operator k)))
+    | no k ↦ elim (decLe 1 (row .tag)) [ yes l ↦ type-tag 2 0 (omega arith) refl | no l ↦ type-tag 0 0 (omega arith) refl ]
+  ]
+
+  -- ---- its shape
+
+  shaped-is : (v : Bool) → v ≡ exprShaped (routine s at) (exprOf (row .tag) (row .a) (row .b)) → v ≡ exprShaped (routine s at) (routine s at .expr e)
+  shaped-is v h = h ∙ ap (λ x. exprShaped (routine s at) x) (expr-means s at e row is)
+
+  shaped-tag : (k : ℕ) (v : Bool) → row .tag ≡ k → v ≡ exprShaped (routine s at) (exprOf k (row .a) (row .b)) → v ≡ exprShaped (routine s at) (routine s at .expr e)
+  shaped-tag k v h g = shaped-is v (rw h g)
+
+  -- a test on an operand's type, as the table has it
+  on-types : (f : ℕ → ℕ → Bool) (a b : ℕ) → a < e → b < e → f (getD ty a 0) (getD ty b 0) ≡ f (typeOf (routine s at) a) (typeOf (routine s at) b)
+  on-types f a b l m = let p = typed .types a (omega arith) in let q = typed .types b (omega arith) in rw (p, q)
+
+  pub shaped-sum : {v : Bool} → row .tag ≡ 5 → v ≡ (ltb 0 (getD ty (row .a) 0) && eqb (getD ty (row .b) 0) 0) → v ≡ exprShaped (routine s at) (routine s at .expr e)
+  shaped-sum {v} h g = let (l, m) = sum-below h in shaped-tag 5 v h (g ∙ on-types (λ x y. ltb 0 x && eqb y 0) (row .a) (row .b) l m)
+
+  pub shaped-read : row .tag ≡ 6 → ltb 0 (getD ty (row .a) 0) ≡ exprShaped (routine s at) (routine s at .expr e)
+  shaped-read h = let l = read-below h in shaped-tag 6 _ h (on-types (λ x y. ltb 0 x) (row .a) (row .a) l l)
+
+  pub shaped-operator : {v : Bool} → 7 ≤ row .tag → v ≡ (eqb (getD ty (row .a) 0) 0 && eqb (getD ty (row .b) 0) 0) → v ≡ exprShaped (routine s at) (routine s at .expr e)
+  shaped-operator {v} h g =
+      let (l, m) = operator-below h in
+      shaped-is v (g ∙ on-types (λ x y. eqb x 0 && eqb y 0) (row .a) (row .b) l m ∙ sym (ap (λ x. exprShaped (routine s at) x) (operator h)))
+
+  -- a row of no operand, or a cast
+  pub shaped-low : row .tag < 5 → true ≡ exprShaped (routine s at) (routine s at .expr e)
+  shaped-low h = by-tag (row .tag) refl h
+    where
+      by-tag : (k : ℕ) → row .tag ≡ k → k < 5 → true ≡ exprShaped (routine s at) (routine s at .expr e)
+      by-tag zero t l = shaped-tag 0 true t refl
+      by-tag (suc zero) t l = shaped-tag 1 true t refl
+      by-tag (suc (suc zero)) t l = false-true (good-tag 2 t)
+      by-tag (suc (suc (suc zero))) t l = shaped-tag 3 true t refl
+      by-tag (suc (suc (suc (suc zero)))) t l = shaped-tag 4 true t refl
+      by-tag (suc (suc (suc (suc (suc k))))) t l = absurd (omega arith)
+
+-- ---- a command row in hand, with a table of all types
+
+module _ {s : List ℕ} {at : Starts} {ty : List ℕ} {c : ℕ} {row : CommandRow} (typed : TypedTo s at (half s (at .exprs)) ty) (less : c < half s (at .commands)) (is : row ≡ commandRow s at c) where
+  command-good : commandGood (half s (at .exprs)) c (commandOf (row .tag) (row .a) (row .b) (row .c)) ≡ true
+  command-good = ap (λ x. commandGood (half s (at .exprs)) c x) (command-means s at c row is) ∙ command-in-range s at (typed .file) c less
+
+  command-good-tag : (k : ℕ) → row .tag ≡ k → commandGood (half s (at .exprs)) c (commandOf k (row .a) (row .b) (row .c)) ≡ true
+  command-good-tag k h = rw h at command-good
+
+  -- no tag is past 4
+  known-tag : row .tag < 5
+  known-tag = elim (decLe 5 (row .tag)) [
+    | yes l ↦ false-true (sym (ap (λ x. commandGood (half s (at .exprs)) c x) (command-none (row .tag) (row .a) (row .b) (row .c) l)) ∙ command-good)
+    | no l ↦ omega arith
+  ]
+
+  pub store-below : row .tag ≡ 2 → row .a < half s (at .exprs)
+  store-below h = both-less (row .a) (row .b) _ _ (command-good-tag 2 h) .0
+
+  -- the tags past a store: a condition
+  test-tag : 3 ≤ row .tag → (X : Type 0) → (row .tag ≡ 3 → X) → (row .tag ≡ 4 → X) → X
+  test-tag l X f g = let m = known-tag in elim (decLe 4 (row .tag)) [ yes k ↦ g (omega arith) | no k ↦ f (omega arith) ]
+
+  pub test-below : 3 ≤ row .tag → row .a < half s (at .exprs)
+  test-below l = test-tag l _
+      (λ h. ltb-true _ _ (both-true (ltb (row .a) (half s (at .exprs))) _ (command-good-tag 3 h) .0))
+      (λ h. both-less (row .a) (row .b) _ _ (command-good-tag 4 h) .0)
+
+  pub in-all : (a : ℕ) → a < half s (at .exprs) → a < 1024
+  in-all a h = omega (arith, typed .file .exprs .few)
+
+  command-shaped-tag : (k : ℕ) (v : Bool) → row .tag ≡ k → v ≡ commandShaped (routine s at) (commandOf k (row .a) (row .b) (row .c)) → v ≡ commandShaped (routine s at) (routine s at .command c)
+  command-shaped-tag k v h g = rw h g ∙ ap (λ x. commandShaped (routine s at) x) (command-means s at c row is)
+
+  pub shaped-store : row .tag ≡ 2 → ltb 0 (getD ty (row .a) 0) ≡ commandShaped (routine s at) (routine s at .command c)
+  shaped-store h = command-shaped-tag 2 _ h (ap (λ x. ltb 0 x) (typed .types (row .a) (store-below h)))
+
+  pub shaped-test : 3 ≤ row .tag → eqb (getD ty (row .a) 0) 0 ≡ commandShaped (routine s at) (routine s at .command c)
+  shaped-test l =
+      let e = ap (λ x. eqb x 0) (typed .types (row .a) (test-below l)) in
+      test-tag l _ (λ h. command-shaped-tag 3 _ h e) (λ h. command-shaped-tag 4 _ h e)
+
+  pub shaped-plain : row .tag < 2 → true ≡ commandShaped (routine s at) (routine s at .command c)
+  shaped-plain l = elim (decLe 1 (row .tag)) [ yes k ↦ command-shaped-tag 1 true (omega arith) refl | no k ↦ command-shaped-tag 0 true (omega arith) refl ]
+
+-- ---- the table is filled
+
+-- At row e of n: the types of earlier rows, and the rest as before.
+pub record TableSoFar (s : List ℕ) (at : Starts) (before : List ℕ) (n e : ℕ) (ty : List ℕ) : Type 0 where
+  pub typed : TypedTo s at e ty
+  pub count : n ≡ half s (at .exprs)
+  pub within : e ≤ n
+  pub same-length : length before ≡ 1024
+  pub stays : (k : ℕ) → e ≤ k → getD ty k 0 ≡ getD before k 0
+
+pub table-start : {s : List ℕ} {at : Starts} {ty : List ℕ} {n : ℕ} → WellRead s at → length ty ≡ 1024 → n ≡ half s (at .exprs) → TableSoFar s at ty n 0 ty
+table-start known long count = record {
+  typed = record { file = known; long = long; types = λ k l. absurd (not-suc-le-zero l) };
+  count = count;
+  within = omega arith;
+  same-length = long;
+  stays = λ k l. refl;
+}
+
+module _ {s : List ℕ} {at : Starts} {before : List ℕ} {n e : ℕ} {ty : List ℕ} (so-far : TableSoFar s at before n e ty) where
+  pub table-next : {v : ℕ} → e < n → v ≡ typeOf (routine s at) e → TableSoFar s at before n (e + 1) (set ty e v)
+  table-next {v} l is =
+      let room : e < length ty = omega (arith, so-far .typed .file .exprs .few) in
+      record {
+        typed = record {
+          file = so-far .typed .file;
+          long = length-set ty e v ∙ so-far .typed .long;
+          types = below-more (λ k. getD (set ty e v) k 0 ≡ typeOf (routine s at) k) e
+              (λ k d. getD-set-other ty e k v 0 (λ q. omega arith) ∙ so-far .typed .types k d)
+              (getD-set-same ty e v 0 room ∙ is);
+        };
+        count = so-far .count;
+        within = omega arith;
+        same-length = so-far .same-length;
+        stays = λ k d. getD-set-other ty e k v 0 (λ q. omega arith) ∙ so-far .stays k (omega arith);
+      }
+
+  pub table-full : n ≤ e → TypeTable (routine s at) before ty
+  table-full l = record {
+    long = so-far .typed .long ∙ sym (so-far .same-length);
+    types = λ k d. so-far .typed .types k (omega arith);
+    stays = λ k d. so-far .stays k (omega arith);
+  }
+
+-- ---- refusal 6: the loop over rows
+
+-- which rows are meant
+pub place-is : (at : Starts) (k b : Bool) (i : ℕ) (v : ℕ) → k ≡ b → v ≡ placeOf at b i → v ≡ placeOf at k i
+place-is at k b i v h g = rw h g
+
+pub meant : (r : Routine) (k b : Bool) (i : ℕ) → k ≡ b → i < countOf r k → i < countOf r b
+meant r k b i h l = rw (← h) l
+
+pub shaped-meant : (r : Routine) (k b : Bool) (i : ℕ) (v : Bool) → k ≡ b → v ≡ shapedAt r b i → v ≡ shapedAt r k i
+shaped-meant r k b i v h g = rw h g
+
+pub few-rows : (s : List ℕ) (at : Starts) (k : Bool) → WellRead s at → countOf (routine s at) k ≤ 1024
+few-rows s at false known = known .exprs .few
+few-rows s at true known = known .commands .few
+
+-- At row i of n: the rest of the rows is judged as all of them are.
+pub record ShapedSoFar (s : List ℕ) (at : Starts) (k : Bool) (n i : ℕ) : Type 0 where
+  pub rest : misshapen s at k 0 n (λ _. fine at) ≡ misshapen s at k i (n - i) (λ _. fine at)
+  pub within : i ≤ n
+
+pub shaped-start : (s : List ℕ) (at : Starts) (k : Bool) (n : ℕ) → ShapedSoFar s at k n 0
+shaped-start s at k n = let e : n - 0 ≡ n = omega arith in record { rest = rw e; within = omega arith }
+
+module _ {s : List ℕ} {at : Starts} {k : Bool} {n i : ℕ} (so-far : ShapedSoFar s at k n i) where
+  module _ (less : i < n) where
+    one-row : misshapen s at k i (n - i) (λ _. fine at) ≡ guard 6 (placeOf at k i) (shapedAt (routine s at) k i) λ _. misshapen s at k (i + 1) (n - (i + 1)) (λ _. fine at)
+    unfolding misshapen
+    one-row = let e : n - i ≡ suc (n - (i + 1)) = omega arith in rw (e, add-one i)
+
+    pub row-misshapen : {p : ℕ} → p ≡ placeOf at k i → shapedAt (routine s at) k i ≡ false → refused 6 p ≡ misshapen s at k 0 n (λ _. fine at)
+    row-misshapen h g = ap (λ x. refused 6 x) h ∙ sym (so-far .rest ∙ one-row ∙ rw g)
+
+    pub row-shaped : shapedAt (routine s at) k i ≡ true → ShapedSoFar s at k n (i + 1)
+    row-shaped g = record { rest = so-far .rest ∙ one-row ∙ rw g; within = omega arith }
+
+  pub all-shaped : n ≤ i → fine at ≡ misshapen s at k 0 n (λ _. fine at)
+  unfolding misshapen
+  all-shaped l = let e : n - i ≡ 0 = omega arith in sym (so-far .rest ∙ rw e)
+
+-- ---- expressions, then commands
+
+-- rows judged, and then what follows
+module _ {X : Type 0} (s : List ℕ) (at : Starts) (k : Bool) (x : X) (go : Unit {0} → Verdict X) where
+  one-then : (p : ℕ) (b : Bool) (u v : Verdict X) → u ≡ unlessRefused v (λ _. go tt) → guard 6 p b (λ _. u) ≡ unlessRefused (guard 6 p b (λ _. v)) (λ _. go tt)
+  one-then p true u v h = h
+  one-then p false u v h = refl
+
+  misshapen-then : (i n : ℕ) → misshapen s at k i n go ≡ unlessRefused (misshapen s at k i n (λ _. fine x)) (λ _. go tt)
+  unfolding misshapen
+  misshapen-then i zero = refl
+  misshapen-then i (suc n) = one-then (placeOf at k i) (shapedAt (routine s at) k i) _ _ (misshapen-then (suc i) n)
+
+shape-is : (s : List ℕ) (at : Starts) → shape (routine s at) (λ _. fine at)
+    ≡ misshapen s at false 0 (half s (at .exprs)) (λ _. misshapen s at true 0 (half s (at .commands)) (λ _. fine at))
+unfolding shape misshapen
+shape-is s at = refl
+
+-- what comes after an answer
+halts : (r : ReadAnswer) (go : Starts → Verdict Starts) → tagOf answers.the-type r ≡ 1 → readSays r ≡ unlessRefused (readSays r) go
+halts (WellFormed at) go h = absurd (omega arith)
+halts (Refused m) go h = refl
+
+goes : (r : ReadAnswer) (v : Verdict Starts) → tagOf answers.the-type r ≡ 0 → unlessRefused (readSays r) (λ _. v) ≡ v
+goes (WellFormed at) v h = refl
+goes (Refused m) v h = absurd (omega arith)
+
+module _ (s : List ℕ) (at : Starts) (r : ReadAnswer) {n : ℕ} (exprs : n ≡ half s (at .exprs)) (first : readSays r ≡ misshapen s at false 0 n (λ _. fine at)) where
+  shape-then : shape (routine s at) (λ _. fine at) ≡ unlessRefused (readSays r) (λ _. misshapen s at true 0 (half s (at .commands)) (λ _. fine at))
+  shape-then =
+      shape-is s at
+      ∙ misshapen-then s at false at (λ _. misshapen s at true 0 (half s (at .commands)) (λ _. fine at)) 0 (half s (at .exprs))
+      ∙ ap (λ x. unlessRefused x (λ _. misshapen s at true 0 (half s (at .commands)) (λ _. fine at))) (sym (first ∙ ap (λ x. misshapen s at false 0 x (λ _. fine at)) exprs))
+
+  pub exprs-misshapen : tagOf answers.the-type r ≡ 1 → readSays r ≡ shape (routine s at) (λ _. fine at)
+  exprs-misshapen h = halts r _ h ∙ sym shape-then
+
+  pub exprs-shaped : {m : ℕ} {v : Verdict Starts} → tagOf answers.the-type r ≡ 0 → m ≡ half s (at .commands) → v ≡ misshapen s at true 0 m (λ _. fine at) → v ≡ shape (routine s at) (λ _. fine at)
+  exprs-shaped h commands second = second ∙ ap (λ x. misshapen s at true 0 x (λ _. fine at)) commands ∙ sym (shape-then ∙ goes r _ h)
+
+-- ---- the whole
+
+fine-same : {X : Type 0} {x y : X} → _≡_ {A = Verdict X} (fine x) (fine y) → x ≡ y
+fine-same h = cc
+
+fine-refused : {A X : Type 0} {x : X} {n p : ℕ} → _≡_ {A = Verdict X} (fine x) (refused n p) → A
+fine-refused h = let z : _≡_ {A = ℕ} 0 1 = cc in absurd (omega arith)
+
+formed-is : (s : List ℕ) → formed s ≡ unlessRefused (reading s) (λ at. shape (routine s at) (λ _. fine at))
+unfolding formed
+formed-is s = refl
+
+module _ (s : List ℕ) (r : ReadAnswer) (read : readSays r ≡ reading s) where
+  pub not-read : {ty : List ℕ} → tagOf answers.the-type r ≡ 1 → ReadTyped s ty ty r
+  not-read h = record {
+    answer = halts r _ h ∙ ap (λ x. unlessRefused x (λ at. shape (routine s at) (λ _. fine at))) read ∙ sym (formed-is s);
+    filled = λ at e. not-fine r h (read ∙ e);
+    left = λ n p e. refl;
+  }
+    where
+      not-fine : {A : Type 0} {at : Starts} (r : ReadAnswer) → tagOf answers.the-type r ≡ 1 → readSays r ≡ fine at → A
+      not-fine (WellFormed at) h e = absurd (omega arith)
+      not-fine (Refused m) h e = fine-refused (sym e)
+
+  module _ {at : Starts} (is : r ≡ WellFormed at) where
+    was-read : reading s ≡ fine at
+    was-read = sym read ∙ ap (λ (x : ReadAnswer). readSays x) is
+
+    pub now-known : WellRead s at
+    now-known = reading-known s at was-read
+
+    pub read-typed : {ty after : List ℕ} {v : ReadAnswer} → TypeTable (routine s at) ty after → readSays v ≡ shape (routine s at) (λ _. fine at) → ReadTyped s ty after v
+    read-typed table judged = record {
+      answer = judged ∙ sym (formed-is s ∙ ap (λ x. unlessRefused x (λ at. shape (routine s at) (λ _. fine at))) was-read);
+      filled = λ at′ e. let same : at ≡ at′ = fine-same (sym was-read ∙ e) in rw (← same) table;
+      left = λ n p e. fine-refused (sym was-read ∙ e);
+    }

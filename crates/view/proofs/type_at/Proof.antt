@@ -1,0 +1,22 @@
+-- `view::type_at` meets its contract: a type row that the file has ends inside it, and the number read there is the row. Assumes nothing.
+use borrow.Author.Needs.{needs}
+use Rattle.view.proofs.type_at.Statement.{statement}
+use Rattle.view.proofs.type_at.Tie as tie
+
+cast-q : tie.Need-cast-q
+cast-q c = search needs
+
+mul-q : tie.Need-mul-q
+mul-q c = search needs
+
+add-q : tie.Need-add-q
+add-q c = search needs
+
+half-at-requires : tie.Need-half-at-requires
+half-at-requires c κs = search needs
+
+returns : tie.Need-returns
+returns c = simp (c .half-at .ensures)
+
+pub type-at-spec : {M : Type 1} → statement M
+type-at-spec = tie.close (tie.spec cast-q mul-q add-q half-at-requires returns)

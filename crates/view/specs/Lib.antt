@@ -1,0 +1,8 @@
+-- What is known of a file that was read, its rows as the view answers them, and what these rows mean.
+pub mod Tests
+pub mod WellRead
+pub mod Rows
+pub mod Known
+pub mod Tags
+pub mod Means
+pub mod Typed

@@ -1,0 +1,86 @@
+-- What the rows that the view answers mean in the routine, and that their numbers are in range.
+use mathlib.Core.Path.{_≡_, refl, ap}
+use mathlib.Core.Bool.{true}
+use Prim.Native.Nat.{ℕ, zero, suc, _+_, _*_, _≤_, _<_}
+use native.Mathlib.Nat.{not-suc-le-zero}
+use native.Mathlib.Numerals.{sub-one}
+use native.Mathlib.Omega.{arith}
+use mathlib.Core.List.{List}
+use borrow.Author.Tests.{leb-true}
+use Rattle.rules.specs.declared.Starts.{Starts}
+use Rattle.rules.specs.Basic.{half}
+use Rattle.rules.specs.Table.{Home, layout, exprOf, commandOf, routine}
+use Rattle.rules.specs.Reading.{rowGood, exprSpare, exprGood, commandSpare, commandGood}
+use Rattle.rules.specs.Shape.{homeAt}
+use Rattle.view.specs.Tests.{both-true, in-range}
+use Rattle.view.specs.WellRead.{WellRead}
+use Rattle.view.specs.declared.ExprRow.{ExprRow}
+use Rattle.view.specs.declared.CommandRow.{CommandRow}
+use Rattle.view.specs.Rows.{homePlace, exprRow, commandRow}
+
+-- ---- a row's meaning
+
+pub expr-means : (s : List ℕ) (at : Starts) (e : ℕ) (r : ExprRow) → r ≡ exprRow s at e → exprOf (r .tag) (r .a) (r .b) ≡ routine s at .expr e
+expr-means s at e r h = ap (λ (x : ExprRow). exprOf (x .tag) (x .a) (x .b)) h
+
+pub command-means : (s : List ℕ) (at : Starts) (c : ℕ) (r : CommandRow) → r ≡ commandRow s at c
+    → commandOf (r .tag) (r .a) (r .b) (r .c) ≡ routine s at .command c
+command-means s at c r h = ap (λ (x : CommandRow). commandOf (x .tag) (x .a) (x .b) (x .c)) h
+
+-- Home i + 1 of the layout has its type and its size from its row.
+pub record HomeHas (s : List ℕ) (q : ℕ) (h : Home) : Type 0 where
+  pub type : half s q ≡ h .type
+  pub size : half s (q + 2) ≡ h .size
+
+layout-has : (s : List ℕ) (q from n i : ℕ) → i < n → HomeHas s (q + 4 * i) (homeAt (layout s q from n) i)
+layout-has s q from zero i l = absurd (not-suc-le-zero l)
+layout-has s q from (suc n) zero l = let e : q + 4 * 0 ≡ q = omega arith in rw e (record { type = refl; size = refl })
+layout-has s q from (suc n) (suc i) l =
+    let e : q + 4 * suc i ≡ q + 4 + 4 * i = omega arith in rw e (layout-has s (q + 4) (from + half s (q + 2)) n i (omega arith))
+
+pub home-has : (s : List ℕ) (at : Starts) (g : ℕ) → 1 ≤ g → g ≤ half s (at .homes) → HomeHas s (homePlace at g) (homeAt (routine s at .homes) g)
+home-has s at zero h l = absurd (not-suc-le-zero h)
+home-has s at (suc g) h l = rw (sub-one (suc g)) (layout-has s (at .homes + 2) 1 (half s (at .homes)) g l)
+
+-- ---- in range
+
+module _ (s : List ℕ) (at : Starts) (known : WellRead s at) where
+  -- A type's target is a lower number.
+  pub target-below : (t : ℕ) → 1 ≤ t → t ≤ half s (at .types) → routine s at .target t < t
+  unfolding rowGood
+  target-below zero h l = absurd (not-suc-le-zero h)
+  target-below (suc t) h l =
+      let e : at .types + 2 + 2 * t ≡ at .types + 2 * suc t = omega arith in
+      let low : half s (at .types + 2 + 2 * t) ≤ t = leb-true _ _ (known .types .good t l) in
+      rw (← e) (omega arith)
+
+  -- A home's type is a type, and it has 1 to 1,024 cells.
+  pub home-in-range : (g : ℕ) → 1 ≤ g → g ≤ half s (at .homes)
+      → ((1 ≤ half s (homePlace at g)) × (half s (homePlace at g) ≤ half s (at .types)))
+      × ((1 ≤ half s (homePlace at g + 2)) × (half s (homePlace at g + 2) ≤ 1024))
+  unfolding rowGood
+  home-in-range zero h l = absurd (not-suc-le-zero h)
+  home-in-range (suc g) h l =
+      let (a, b) = both-true _ _ (known .homes .good g l) in
+      rw (sub-one (suc g)) (in-range 1 _ _ a, in-range 1 _ _ b)
+
+  -- The fields that an expression row does not mention are zero, and what it names is in range, by its form.
+  pub expr-spare : (e : ℕ) → e < half s (at .exprs) → exprSpare (exprRow s at e .tag) (exprRow s at e .a) (exprRow s at e .b) ≡ true
+  unfolding rowGood
+  expr-spare e l = both-true (exprSpare (exprRow s at e .tag) (exprRow s at e .a) (exprRow s at e .b)) _ (known .exprs .good e l) .0
+
+  pub expr-in-range : (e : ℕ) → e < half s (at .exprs) → exprGood (half s (at .types)) (half s (at .homes)) e (routine s at .expr e) ≡ true
+  unfolding rowGood
+  expr-in-range e l = both-true (exprSpare (exprRow s at e .tag) (exprRow s at e .a) (exprRow s at e .b)) _ (known .exprs .good e l) .1
+
+  -- The same of a command row.
+  pub command-spare : (c : ℕ) → c < half s (at .commands)
+      → commandSpare (commandRow s at c .tag) (commandRow s at c .a) (commandRow s at c .b) (commandRow s at c .c) ≡ true
+  unfolding rowGood
+  command-spare c l =
+      both-true (commandSpare (commandRow s at c .tag) (commandRow s at c .a) (commandRow s at c .b) (commandRow s at c .c)) _ (known .commands .good c l) .0
+
+  pub command-in-range : (c : ℕ) → c < half s (at .commands) → commandGood (half s (at .exprs)) c (routine s at .command c) ≡ true
+  unfolding rowGood
+  command-in-range c l =
+      both-true (commandSpare (commandRow s at c .tag) (commandRow s at c .a) (commandRow s at c .b) (commandRow s at c .c)) _ (known .commands .good c l) .1

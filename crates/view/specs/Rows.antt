@@ -1,0 +1,63 @@
+-- The rows of a file's sections as the view answers them, and when they may be asked.
+use Prim.Native.Nat.{ℕ, _+_, _*_, _-_, _≤_, _<_}
+use mathlib.Core.List.{List}
+use Rattle.rules.specs.declared.Starts.{Starts}
+use Rattle.rules.specs.Basic.{byte, half}
+use Rattle.view.specs.WellRead.{WellRead}
+use Rattle.view.specs.declared.TypeRow.{TypeRow}
+use Rattle.view.specs.declared.HomeRow.{HomeRow}
+use Rattle.view.specs.declared.ExprRow.{ExprRow}
+use Rattle.view.specs.declared.CommandRow.{CommandRow}
+use Rattle.view.specs.declared.Counts.{Counts}
+
+-- The place of a row. Types and homes are numbered from 1.
+abbrev pub homePlace : Starts → ℕ → ℕ
+homePlace at g = at .homes + 2 + 4 * (g - 1)
+
+-- A row's fields at its place.
+abbrev pub typeRowAt : List ℕ → ℕ → TypeRow
+typeRowAt s q = record { target = half s q }
+
+abbrev pub homeRowAt : List ℕ → ℕ → HomeRow
+homeRowAt s q = record { ty = half s q; size = half s (q + 2) }
+
+abbrev pub exprRowAt : List ℕ → ℕ → ExprRow
+exprRowAt s q = record { tag = byte s q; a = half s (q + 1); b = half s (q + 3) }
+
+abbrev pub commandRowAt : List ℕ → ℕ → CommandRow
+commandRowAt s q = record { tag = byte s q; a = half s (q + 1); b = half s (q + 3); c = half s (q + 5) }
+
+-- A row by its number.
+abbrev pub typeRow : List ℕ → Starts → ℕ → TypeRow
+typeRow s at t = typeRowAt s (at .types + 2 * t)
+
+abbrev pub homeRow : List ℕ → Starts → ℕ → HomeRow
+homeRow s at g = homeRowAt s (homePlace at g)
+
+abbrev pub exprRow : List ℕ → Starts → ℕ → ExprRow
+exprRow s at e = exprRowAt s (at .exprs + 2 + 5 * e)
+
+abbrev pub commandRow : List ℕ → Starts → ℕ → CommandRow
+commandRow s at c = commandRowAt s (at .commands + 2 + 7 * c)
+
+abbrev pub countsOf : List ℕ → Starts → Counts
+countsOf s at =
+    record { types = half s (at .types); homes = half s (at .homes); exprs = half s (at .exprs); commands = half s (at .commands) }
+
+-- A row of a file that was read, by a number that it has.
+pub record TypeAsked (s : List ℕ) (at : Starts) (t : ℕ) : Type 0 where
+  pub file : WellRead s at
+  pub row : t ≤ half s (at .types)
+
+pub record HomeAsked (s : List ℕ) (at : Starts) (g : ℕ) : Type 0 where
+  pub file : WellRead s at
+  pub first : 1 ≤ g
+  pub row : g ≤ half s (at .homes)
+
+pub record ExprAsked (s : List ℕ) (at : Starts) (e : ℕ) : Type 0 where
+  pub file : WellRead s at
+  pub row : e < half s (at .exprs)
+
+pub record CommandAsked (s : List ℕ) (at : Starts) (c : ℕ) : Type 0 where
+  pub file : WellRead s at
+  pub row : c < half s (at .commands)

@@ -1,0 +1,205 @@
+// The view of a file that was read: its bytes and its four section starts, with one question for the rows of each section.
+// Above each question stands a function with plain parameters that makes the view and asks it; the work is done by functions on the slice.
+use rules::Starts;
+ghost use mathlib.Core.Path.{_≡_};
+ghost use Prim.Native.Nat.{_+_, _≤_, _<_};
+ghost use lib.ListN.{length};
+ghost use Rattle.rules.specs.Basic.{half};
+ghost use Rattle.view.specs.WellRead.{WellRead};
+ghost use Rattle.view.specs.Rows.{typeRow, homeRow, exprRow, commandRow, countsOf, TypeAsked, HomeAsked, ExprAsked, CommandAsked};
+
+// A type row: the type that a reference of this type points to.
+pub struct TypeRow {
+    pub target: u16,
+}
+
+// A home row: the home's type and its number of cells.
+pub struct HomeRow {
+    pub ty: u16,
+    pub size: u16,
+}
+
+// An expression row.
+pub struct ExprRow {
+    pub tag: u8,
+    pub a: u16,
+    pub b: u16,
+}
+
+// A command row.
+pub struct CommandRow {
+    pub tag: u8,
+    pub a: u16,
+    pub b: u16,
+    pub c: u16,
+}
+
+// How many rows each section has.
+pub struct Counts {
+    pub types: u16,
+    pub homes: u16,
+    pub exprs: u16,
+    pub commands: u16,
+}
+
+// The file's bytes and its four section starts.
+pub struct View<'a> {
+    pub bytes: &'a [u8],
+    pub at: Starts,
+}
+
+// ---- the work, on the slice
+
+// A byte as a 16-bit number.
+fn wide(b: u8) -> u16
+    ensures { λ r. ⌜ (r ≡ b) × (r < 256) ⌝ }
+{
+    b as u16
+}
+
+// The 16-bit number at place `i`.
+fn half_at(s: &[u8], i: usize) -> u16
+    requires { ⌜ i + 2 ≤ length (now s) ⌝ }
+    ensures { λ r. ⌜ r ≡ half (now (s .entry)) i ⌝ }
+{
+    wide(s[i]) + 256 * wide(s[i + 1])
+}
+
+// Type row `t`, from 1; row 0 stands for the count.
+fn type_at(s: &[u8], at: Starts, t: usize) -> TypeRow
+    requires { ⌜ TypeAsked (now s) at t ⌝ }
+    ensures { λ r. ⌜ r ≡ typeRow (now (s .entry)) at t ⌝ }
+{
+    let q = at.types as usize + 2 * t;
+    TypeRow {
+        target: half_at(s, q),
+    }
+}
+
+// Home row `g`, from 1.
+fn home_at(s: &[u8], at: Starts, g: usize) -> HomeRow
+    requires { ⌜ HomeAsked (now s) at g ⌝ }
+    ensures { λ r. ⌜ r ≡ homeRow (now (s .entry)) at g ⌝ }
+{
+    let q = at.homes as usize + 2 + 4 * (g - 1);
+    HomeRow {
+        ty: half_at(s, q),
+        size: half_at(s, q + 2),
+    }
+}
+
+// Expression row `e`.
+fn expr_at(s: &[u8], at: Starts, e: usize) -> ExprRow
+    requires { ⌜ ExprAsked (now s) at e ⌝ }
+    ensures { λ r. ⌜ r ≡ exprRow (now (s .entry)) at e ⌝ }
+{
+    let q = at.exprs as usize + 2 + 5 * e;
+    ExprRow {
+        tag: s[q],
+        a: half_at(s, q + 1),
+        b: half_at(s, q + 3),
+    }
+}
+
+// Command row `c`.
+fn command_at(s: &[u8], at: Starts, c: usize) -> CommandRow
+    requires { ⌜ CommandAsked (now s) at c ⌝ }
+    ensures { λ r. ⌜ r ≡ commandRow (now (s .entry)) at c ⌝ }
+{
+    let q = at.commands as usize + 2 + 7 * c;
+    CommandRow {
+        tag: s[q],
+        a: half_at(s, q + 1),
+        b: half_at(s, q + 3),
+        c: half_at(s, q + 5),
+    }
+}
+
+// How many rows the sections have.
+pub fn row_counts(file: &[u8], at: Starts) -> Counts
+    requires { ⌜ WellRead (now file) at ⌝ }
+    ensures { λ r. ⌜ r ≡ countsOf (now (file .entry)) at ⌝ }
+{
+    let types = at.types as usize;
+    let homes = at.homes as usize;
+    let exprs = at.exprs as usize;
+    let commands = at.commands as usize;
+    Counts {
+        types: half_at(file, types),
+        homes: half_at(file, homes),
+        exprs: half_at(file, exprs),
+        commands: half_at(file, commands),
+    }
+}
+
+// ---- the view
+
+// The view of a file whose sections start at `at`.
+pub fn view_of<'a>(bytes: &'a [u8], at: Starts) -> View<'a>
+    ensures { λ r. ⌜ (r .bytes ≡ bytes .entry) × (r .at ≡ at) ⌝ }
+{
+    View { bytes, at }
+}
+
+// The view's questions: a row of each section.
+pub fn ask_type<'a>(v: View<'a>, t: usize) -> TypeRow
+    requires { ⌜ TypeAsked (now (v .bytes)) (v .at) t ⌝ }
+    ensures { λ r. ⌜ r ≡ typeRow (now (v .entry .bytes)) (v .entry .at) t ⌝ }
+{
+    type_at(v.bytes, v.at, t)
+}
+
+pub fn ask_home<'a>(v: View<'a>, g: usize) -> HomeRow
+    requires { ⌜ HomeAsked (now (v .bytes)) (v .at) g ⌝ }
+    ensures { λ r. ⌜ r ≡ homeRow (now (v .entry .bytes)) (v .entry .at) g ⌝ }
+{
+    home_at(v.bytes, v.at, g)
+}
+
+pub fn ask_expr<'a>(v: View<'a>, e: usize) -> ExprRow
+    requires { ⌜ ExprAsked (now (v .bytes)) (v .at) e ⌝ }
+    ensures { λ r. ⌜ r ≡ exprRow (now (v .entry .bytes)) (v .entry .at) e ⌝ }
+{
+    expr_at(v.bytes, v.at, e)
+}
+
+pub fn ask_command<'a>(v: View<'a>, c: usize) -> CommandRow
+    requires { ⌜ CommandAsked (now (v .bytes)) (v .at) c ⌝ }
+    ensures { λ r. ⌜ r ≡ commandRow (now (v .entry .bytes)) (v .entry .at) c ⌝ }
+{
+    command_at(v.bytes, v.at, c)
+}
+
+// ---- the same questions with plain parameters
+
+// Type row `t` of a file that was read.
+pub fn type_row(file: &[u8], at: Starts, t: usize) -> TypeRow
+    requires { ⌜ TypeAsked (now file) at t ⌝ }
+    ensures { λ r. ⌜ r ≡ typeRow (now (file .entry)) at t ⌝ }
+{
+    ask_type(view_of(file, at), t)
+}
+
+// Home row `g`.
+pub fn home_row(file: &[u8], at: Starts, g: usize) -> HomeRow
+    requires { ⌜ HomeAsked (now file) at g ⌝ }
+    ensures { λ r. ⌜ r ≡ homeRow (now (file .entry)) at g ⌝ }
+{
+    ask_home(view_of(file, at), g)
+}
+
+// Expression row `e`.
+pub fn expr_row(file: &[u8], at: Starts, e: usize) -> ExprRow
+    requires { ⌜ ExprAsked (now file) at e ⌝ }
+    ensures { λ r. ⌜ r ≡ exprRow (now (file .entry)) at e ⌝ }
+{
+    ask_expr(view_of(file, at), e)
+}
+
+// Command row `c`.
+pub fn command_row(file: &[u8], at: Starts, c: usize) -> CommandRow
+    requires { ⌜ CommandAsked (now file) at c ⌝ }
+    ensures { λ r. ⌜ r ≡ commandRow (now (file .entry)) at c ⌝ }
+{
+    ask_command(view_of(file, at), c)
+}
