@@ -120,15 +120,15 @@ module _ {s m ty : List ℕ} {at : Starts} (y : Accepted s at m ty) where
   pub kinded : (t : ℕ) → t ≤ half s (at .types) → Kinded m t
   kinded t l = record { inside = omega (arith, fit .size, l); small = λ i k. fit .bytes i (omega (arith, fit .size, k)) }
 
+  pub target-in : (p : ℕ) → p ≤ half s (at .types) → routine s at .target p ≤ half s (at .types)
+  target-in zero i = let e : at .types + 2 * 0 ≡ at .types = omega arith in rw e (omega arith)
+  target-in (suc p) i = omega (arith, well .falls .by p i)
+
   -- The type of an expression, and its target.
   pub reference : (p e : ℕ) → e < half s (at .exprs) → p ≡ getD ty e 0 → ReferenceReady s at m p
   reference p e l h =
       let i : p ≤ half s (at .types) = rw (h ∙ y .types e l) (type-le well e l) in
-      record { type = record { file = known; row = i }; kind = kinded p i; target = kinded _ (below p i) }
-    where
-      below : (p : ℕ) → p ≤ half s (at .types) → routine s at .target p ≤ half s (at .types)
-      below zero i = let e : at .types + 2 * 0 ≡ at .types = omega arith in rw e (omega arith)
-      below (suc p) i = omega (arith, well .falls .by p i)
+      record { type = record { file = known; row = i }; kind = kinded p i; target = kinded _ (target-in p i) }
 
   -- ---- expression rows
 

@@ -15,7 +15,7 @@ ghost use Rattle.filling.specs.Filling.{kindAt, homeFieldIn, Kinded, Acc
 
 // ---- kinds: 0 int, 1 SAFE, 2 SEQ, 3 DYNAMIC
 
-fn kind_of(marking: &[u8], t: u16) -> u8
+pub fn kind_of(marking: &[u8], t: u16) -> u8
     requires { ⌜ Kinded (now marking) t ⌝ }
     ensures { λ r. ⌜ kindAt r ≡ kind (now (marking .entry)) t ⌝ }
 {

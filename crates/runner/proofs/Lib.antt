@@ -1,0 +1,4 @@
+pub mod Parts
+pub mod Cells
+pub mod Places
+pub mod Whole
