@@ -11,13 +11,13 @@ use Rattle.rules.specs.Memory.{State}
 use Rattle.rules.specs.Run.{Stop, Answer, stopped, Ran, halted, andThen, enter, afterwards, turns, exprRow, evalBelow, eval, commandRow, execBelow, exec}
 use Rattle.laws.specs.Formed.{Fits, CommandFits, Formed}
 
-then-same : {X : Type 0} (stop : Stop → X) {x y : Told Answer} {k l : Value → ℕ → Told X} → x ≡ y → ((v : Value) (f : ℕ) → k v f ≡ l v f) → andThen stop x k ≡ andThen stop y l
+pub then-same : {X : Type 0} (stop : Stop → X) {x y : Told Answer} {k l : Value → ℕ → Told X} → x ≡ y → ((v : Value) (f : ℕ) → k v f ≡ l v f) → andThen stop x k ≡ andThen stop y l
 then-same stop {k = k} {l = l} p q = let e : k ≡ l = fun-ext (λ v. fun-ext (λ f. q v f)) in rw (p, e)
 
-on-same : {x y : Told Ran} {k l : State → ℕ → Told Ran} → x ≡ y → ((w : State) (f : ℕ) → k w f ≡ l w f) → afterwards x k ≡ afterwards y l
+pub on-same : {x y : Told Ran} {k l : State → ℕ → Told Ran} → x ≡ y → ((w : State) (f : ℕ) → k w f ≡ l w f) → afterwards x k ≡ afterwards y l
 on-same {k = k} {l = l} p q = let e : k ≡ l = fun-ext (λ w. fun-ext (λ f. q w f)) in rw (p, e)
 
-enter-same : {X : Type 0} (stop : Stop → X) (p f : ℕ) {k l : ℕ → Told X} → ((f₁ : ℕ) → k f₁ ≡ l f₁) → enter stop p f k ≡ enter stop p f l
+pub enter-same : {X : Type 0} (stop : Stop → X) (p f : ℕ) {k l : ℕ → Told X} → ((f₁ : ℕ) → k f₁ ≡ l f₁) → enter stop p f k ≡ enter stop p f l
 enter-same stop p f q = ap (enter stop p f) (fun-ext q)
 
 module _ (r : Routine) (m : List ℕ) where

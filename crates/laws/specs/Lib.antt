@@ -14,3 +14,10 @@ pub mod Forget
 pub mod Dynamic
 pub mod Proofs
 pub mod Convert
+pub mod Graph
+pub mod Solve
+pub mod Demands
+pub mod Least
+pub mod Front
+pub mod Answers
+pub mod Lent

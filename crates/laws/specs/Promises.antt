@@ -1,24 +1,31 @@
--- What is promised of the rules. Statements only: the proofs are in `Proofs`.
+-- What is promised of the rules. Statements only: the proofs are in `Proofs`, or in the module that its first lines name.
 use mathlib.Core.Path.{_≡_}
 use mathlib.Core.Logic.{_⊎_}
 use mathlib.Core.Bool.{true}
-use Prim.Native.Nat.{ℕ, _+_, _%_, _≤_, _<_}
+use Prim.Native.Nat.{ℕ, suc, _+_, _%_, _≤_, _<_}
 use mathlib.Core.List.{List, _∷_, _++_}
-use lib.ListN.{drop, take, replicate}
+use lib.ListN.{length, getD, drop, take, replicate}
 use Rattle.rules.specs.declared.Value.{Value}
 use Rattle.rules.specs.declared.Value.the-variants.{Number, Pair}
 use Rattle.rules.specs.declared.Starts.{Starts}
+use Rattle.rules.specs.declared.ReadAnswer.{ReadAnswer}
+use Rattle.rules.specs.declared.CheckAnswer.{CheckAnswer}
+use Rattle.rules.specs.declared.InferAnswer.{InferAnswer}
+use Rattle.rules.specs.declared.RunAnswer.{RunAnswer}
 use Rattle.rules.specs.Basic.{byte, width, fine}
-use Rattle.rules.specs.Table.{Routine, routine}
-use Rattle.rules.specs.Kinds.{Kind, SAFE, kind, notSafe, same, Acceptable}
+use Rattle.rules.specs.Table.{Routine, routine, null}
+use Rattle.rules.specs.Kinds.{Kind, SAFE, kind, notSafe, sameBelow, same, typeKind, exprKind, commandKind, Acceptable}
+use Rattle.rules.specs.Shape.{homeAt, typeOf, exprShaped, commandShaped}
 use Rattle.rules.specs.Least.{Least}
 use Rattle.rules.specs.Steps.{Step, entered, stored, Told, units}
 use Rattle.rules.specs.Memory.{State, replay}
 use Rattle.rules.specs.Ruled.{Check, check2, gives, fails}
 use Rattle.rules.specs.Values.{convert, reach, moved}
 use Rattle.rules.specs.Run.{Stop, noFuel, failed, noRule, Ran, done, halted, start, run}
-use Rattle.rules.specs.Valid.{InHome, Valid, ValidState}
-use Rattle.rules.specs.Calls.{formed, judged, cellCount, stateOf, Left, Inferred}
+use Rattle.rules.specs.Valid.{Real, InHome, Valid, ValidState}
+use Rattle.rules.specs.Calls.{formed, judged, cellCount, outOfFuel, endingOf, stateOf, Left, Ended as Report, Inferred, checking, running, readSays, checkSays, inferSays, runSays}
+use Rattle.laws.specs.Formed.{Fits, CommandFits}
+use Rattle.laws.specs.Graph.{Meets, Each, demands}
 
 -- ---- words
 
@@ -93,17 +100,36 @@ Surplus = (s m lent : List ℕ) (fuel : ℕ) (at : Starts) → Bytes s → judge
 abbrev pub Spending : Type 0
 Spending = (r : Routine) (m lent : List ℕ) (fuel : ℕ) → units (run r m lent fuel .steps) + leftAfter (run r m lent fuel .answer) ≡ fuel
 
+-- So units never pass the fuel given, and a run that is out of fuel has spent it all.
+pub record Spent (fuel : ℕ) (x : Told Ran) : Type 0 where
+  pub most : units (x .steps) ≤ fuel
+  pub all : (p : ℕ) → endingOf (x .answer) ≡ outOfFuel p → units (x .steps) ≡ fuel
+
+abbrev pub Within : Type 0
+Within = (r : Routine) (m lent : List ℕ) (fuel : ℕ) → Spent fuel (run r m lent fuel)
+
 -- A run with fuel k is the first k rows of every run with more: `d` is how much more.
 abbrev pub Prefixes : Type 0
 Prefixes = (r : Routine) (m lent : List ℕ) (k d : ℕ) → Longer (ranMore d) CutRan (run r m lent k) (run r m lent (k + d))
 
+-- What the lent memory held before does not matter: ending, units and cells are functions of file, marking and fuel alone.
+pub record SameRun (cells : ℕ) (x y : Left Report) : Type 0 where
+  pub answers : x .answer ≡ y .answer
+  pub memory : take cells (x .lent) ≡ take cells (y .lent)
+
+abbrev pub Alone : Type 0
+Alone = (s m lent lent′ : List ℕ) (fuel : ℕ) (at : Starts) → Bytes s → judged s m ≡ fine at
+    → let n = cellCount (routine s at) in n ≤ length lent → n ≤ length lent′ → SameRun n (running s m fuel lent) (running s m fuel lent′)
+
 -- ---- markings
 
--- Equality of types is an equivalence. Equal types have equal kinds, and the same values are valid for both.
+-- Equality of types is an equivalence. It does not depend on how many targets are gone down, if they are more than the type's number.
+-- Equal types have equal kinds, and the same values are valid for both.
 pub record Equality (r : Routine) (m : List ℕ) : Type 0 where
   pub reflexive : (t : ℕ) → same r m t t ≡ true
   pub symmetric : (t u : ℕ) → same r m t u ≡ true → same r m u t ≡ true
   pub transitive : (t u v : ℕ) → same r m t u ≡ true → same r m u v ≡ true → same r m t v ≡ true
+  pub bound : (d t u : ℕ) → t ≤ r .types → t < d → sameBelow r m d t u ≡ same r m t u
   pub kinds : (t u : ℕ) → same r m t u ≡ true → kind m t ≡ kind m u
   pub values : {w : State} → ValidState r m w → (t u : ℕ) (v : Value) → t ≤ r .types → same r m t u ≡ true
       → Valid r m (w .homes) t v → Valid r m (w .homes) u v
@@ -123,6 +149,14 @@ pub record Judges (s m : List ℕ) (at : Starts) : Type 0 where
 abbrev pub Exactly : Type 0
 Exactly = (s m : List ℕ) (at : Starts) → formed s ≡ fine at → Judges s m at
 
+-- A marking of the right length and bytes is acceptable exactly if it meets every demand of its routine's graph.
+pub record Meeting (r : Routine) (m : List ℕ) : Type 0 where
+  pub only : Acceptable r m → Each (Meets m) (demands r)
+  pub every : length m ≡ r .types → ((i : ℕ) → i < r .types → getD m i 0 ≤ 2) → Each (Meets m) (demands r) → Acceptable r m
+
+abbrev pub Demanded : Type 0
+Demanded = (s m : List ℕ) (at : Starts) → Bytes s → formed s ≡ fine at → Meeting (routine s at) m
+
 -- The least marking of a well-formed file exists, and there is one only.
 pub record LeastMarking (r : Routine) : Type 0 where
   pub marking : List ℕ
@@ -136,6 +170,10 @@ LeastExists = (s : List ℕ) (at : Starts) → Bytes s → formed s ≡ fine at 
 abbrev pub OneInference : Type 0
 OneInference = (s lent : List ℕ) (x y : Left (Unit {0})) → Inferred s lent x → Inferred s lent y → x ≡ y
 
+-- And it has one for every file of bytes.
+abbrev pub SomeInference : Type 0
+SomeInference = (s lent : List ℕ) → Bytes s → (x : Left (Unit {0})) × Inferred s lent x
+
 -- ---- a number gives nobody a way back
 
 -- A pointer made of a number names home 0, also after sums. Every access through it fails a check, and as SAFE it is null or fails one.
@@ -148,8 +186,47 @@ pub record Nowhere (w : State) (s : Kind) (n : ℕ) : Type 0 where
 abbrev pub MadeOfNumber : Type 0
 MadeOfNumber = (r : Routine) (m : List ℕ) (w : State) → ValidState r m w → (s : Kind) → notSafe s ≡ true → (n : ℕ) → Nowhere w s n
 
+-- ---- rows
+
+-- What refusals 1 to 8 leave of each row.
+pub record Facts (r : Routine) (m : List ℕ) : Type 0 where
+  -- A type's target has a lower number, and DYNAMIC goes down to it.
+  pub types : (i : ℕ) → i < r .types → (r .target (suc i) < suc i) × (typeKind r m (suc i) ≡ true)
+  -- A home's type is a reference.
+  pub homes : (g : ℕ) → Real (r .homes) g → (0 < homeAt (r .homes) g .type) × (homeAt (r .homes) g .type ≤ r .types)
+  -- An operand comes earlier and is in range, is int or a reference as its row needs, and the row keeps the kind rule.
+  pub exprs : (e : ℕ) → e < r .exprs → Fits r e (r .expr e) × (exprShaped r (r .expr e) ≡ true) × (exprKind r m (r .expr e) ≡ true)
+  pub commands : (c : ℕ) → c < r .commands → CommandFits r c (r .command c) × (commandShaped r (r .command c) ≡ true) × (commandKind r m (r .command c) ≡ true)
+  -- A null has a reference type.
+  pub nulls : (e t : ℕ) → e < r .exprs → r .expr e ≡ null t → 0 < t
+  -- The type of a row is one that there is.
+  pub typed : (e : ℕ) → e < r .exprs → typeOf r e ≤ r .types
+  -- There is a body.
+  pub body : 0 < r .commands
+
+abbrev pub Rows : Type 0
+Rows = (s m : List ℕ) (at : Starts) → Bytes s → judged s m ≡ fine at → Facts (routine s at) m
+
+-- ---- answers
+
+-- The code's answers lose nothing of what they say: two that say the same are the same.
+pub record Lossless : Type 0 where
+  pub reading : (x y : ReadAnswer) → readSays x ≡ readSays y → x ≡ y
+  pub checking : (x y : CheckAnswer) → checkSays x ≡ checkSays y → x ≡ y
+  pub inferring : (x y : InferAnswer) → inferSays x ≡ inferSays y → x ≡ y
+  pub running : (x y : RunAnswer) → runSays x ≡ runSays y → x ≡ y
+
 -- ---- reading
 
--- The first 13,063 bytes decide.
+-- The first 13,063 bytes decide what is read,
 abbrev pub FirstBytes : Type 0
-FirstBytes = (s : List ℕ) → Bytes s → formed s ≡ formed (take 13063 s)
+FirstBytes = (s : List ℕ) → formed s ≡ formed (take 13063 s)
+
+-- and with it what each call answers, and each lent entry afterwards.
+pub record SameCalls (s z : List ℕ) : Type 0 where
+  pub checks : (m : List ℕ) → checking s m ≡ checking z m
+  pub infers : (lent : List ℕ) (x : Left (Unit {0})) → (Inferred s lent x → Inferred z lent x) × (Inferred z lent x → Inferred s lent x)
+  pub runs : (m : List ℕ) (fuel : ℕ) (lent : List ℕ) → running s m fuel lent ≡ running z m fuel lent
+
+abbrev pub FirstBytesDecide : Type 0
+FirstBytesDecide = (s : List ℕ) → SameCalls s (take 13063 s)

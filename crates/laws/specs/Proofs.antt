@@ -1,40 +1,42 @@
--- The promises, proved.
+-- The promises, proved. `FirstBytes` and `FirstBytesDecide` are proved in `Front`, `Alone` in `Lent`, `Lossless` in `Answers`.
 use mathlib.Core.Bool.{Bool, true, false}
 use Rattle.rules.specs.declared.Value.{Value}
 use Rattle.rules.specs.declared.Value.the-variants.{Number, Pair}
 use Rattle.rules.specs.declared.Starts.{Starts}
-use Rattle.rules.specs.Basic.{fine}
-use Rattle.rules.specs.Steps.{Step, entered, stored}
+use Rattle.rules.specs.Basic.{Verdict, fine, refused}
+use Rattle.rules.specs.Steps.{Step, entered, stored, Told, units}
 use Rattle.rules.specs.Table.{Routine, routine, total}
 use Rattle.rules.specs.Shape.{homeAt}
 use Rattle.rules.specs.Kinds.{Acceptable, int, SAFE, SEQ, DYNAMIC}
-use Rattle.rules.specs.Calls.{formed, judged}
+use Rattle.rules.specs.Calls.{formed, judged, outOfFuel, endingOf, Left, Inferred, left, marked, inferable}
 use Rattle.rules.specs.Memory.{State, replay, encode}
 use Rattle.rules.specs.Ruled.{Check, check1, check2, check3, gives, fails}
 use Rattle.rules.specs.Values.{convert, reach}
-use Rattle.rules.specs.Run.{startCells, start}
+use Rattle.rules.specs.Run.{noFuel, failed, noRule, Ran, done, halted, startCells, start, run}
 use Rattle.rules.specs.Valid.{InHome, Laid, ValidState}
-use mathlib.Core.Path.{_≡_, refl, _∙_}
+use mathlib.Core.Path.{_≡_, refl, sym, _∙_}
 use mathlib.Core.Logic.{_⊎_, inl, inr}
-use Prim.Native.Nat.{ℕ, suc, _-_}
+use Prim.Native.Nat.{ℕ, suc, _+_, _-_}
 use native.Mathlib.Omega.{arith}
 use mathlib.Core.List.{List, [], _∷_, _++_}
 use lib.ListN.{length, drop}
 use lib.Seq.{drop-set-lt, drop-append-seam}
-use lib.Dec.{ltb}
+use lib.Dec.{leb, ltb}
 use borrow.Author.Tests.{ltb-true}
 use Rattle.rules.specs.Tests.{false-true}
-use Rattle.laws.specs.Promises.{Bytes, Safety, Spending, Prefixes, Surplus, MadeOfNumber, Equal, AllDynamic, Exactly}
+use Rattle.rules.specs.Tested.{refused-fine, passed}
+use Rattle.laws.specs.Promises.{Bytes, Safety, Spending, Prefixes, Surplus, MadeOfNumber, Equal, AllDynamic, Exactly, Demanded, LeastMarking, LeastExists, OneInference, SomeInference, Within, Rows, leftAfter}
 use Rattle.laws.specs.Values.{null-address, valid-same}
 use Rattle.laws.specs.Steps.{Steps, still, enters, stores, steps-valid}
-use Rattle.laws.specs.Formed.{Formed}
+use Rattle.laws.specs.Formed.{Formed, type-le}
 use Rattle.laws.specs.Sound.{exec-ok}
 use Rattle.laws.specs.Units.{exec-spends}
 use Rattle.laws.specs.Prefix.{exec-longer}
 use Rattle.laws.specs.Start.{length-start, start-laid, start-ok}
-use Rattle.laws.specs.Read.{formed-fine, judged-fine, acceptable-judged}
-use Rattle.laws.specs.Same.{reflexive, symmetric, trans, same-kind}
+use Rattle.laws.specs.Read.{fine-same, fine-again, formed-read, null-ref, formed-fine, judged-fine, acceptable-judged}
+use Rattle.laws.specs.Same.{reflexive, symmetric, trans, same-kind, same-bound}
 use Rattle.laws.specs.Dynamic.{all-acceptable}
+use Rattle.laws.specs.Least.{acceptable-meets, meets-acceptable, least-exists, least-unique}
 
 module _ {r : Routine} {m : List ℕ} where
   split : {w w′ : State} {k : List Step} (l : List Step) → Steps r m w (l ++ k) w′ → Steps r m w l (replay w l) × Steps r m (replay w l) k w′
@@ -49,6 +51,13 @@ module _ {r : Routine} {m : List ℕ} where
 
   in-home : {w w′ : State} {a : ℕ} {v : Value} {l : List Step} → Steps r m w (stored a v ∷ l) w′ → InHome (w .homes) a
   in-home (stores i o x) = i
+
+-- Nothing is left where the fuel is out.
+none-left : (a : Ran) (p : ℕ) → endingOf a ≡ outOfFuel p → leftAfter a ≡ 0
+none-left (done w f) p e = let z : _≡_ {A = ℕ} 0 1 = cc in absurd (omega arith)
+none-left (halted w (noFuel q)) p e = refl
+none-left (halted w (failed c q f)) p e = let z : _≡_ {A = ℕ} 0 1 = cc in absurd (omega arith)
+none-left (halted w (noRule q f)) p e = let z : _≡_ {A = ℕ} 0 1 = cc in absurd (omega arith)
 
 -- A file's bytes and its marking, taken apart.
 accepted : {s m : List ℕ} {at : Starts} → Bytes s → judged s m ≡ fine at → Formed (routine s at) × Acceptable (routine s at) m
@@ -71,6 +80,12 @@ spending r m lent fuel = exec-spends r m (suc (r .commands - 1)) (start r m lent
 
 pub prefixes : Prefixes
 prefixes r m lent k d = exec-longer d r m (suc (r .commands - 1)) (start r m lent) (r .commands - 1) k
+
+pub within : Within
+within r m lent fuel = record { most = omega (arith, spending r m lent fuel); all = λ p e. go (run r m lent fuel) (spending r m lent fuel) p e }
+  where
+    go : (x : Told Ran) → units (x .steps) + leftAfter (x .answer) ≡ fuel → (p : ℕ) → endingOf (x .answer) ≡ outOfFuel p → units (x .steps) ≡ fuel
+    go x s p e = omega (arith, s, none-left (x .answer) p e)
 
 -- ---- lent memory past the cells
 
@@ -120,6 +135,7 @@ equal s m at b f =
       reflexive = reflexive r m;
       symmetric = symmetric r m;
       transitive = trans r m;
+      bound = λ d t u l h. same-bound r m (formed-fine b f .falls .by) d t u l h;
       kinds = same-kind r m;
       values = λ ok t u v l h y. valid-same ok (formed-fine b f .falls) l h y;
     }
@@ -132,3 +148,47 @@ exactly s m at f = record { only = λ j. only (judged-fine s m j); every = λ a.
   where
     only : (formed s ≡ fine at) × Acceptable (routine s at) m → Acceptable (routine s at) m
     only x = x .1
+
+pub demanded : Demanded
+demanded s m at b f =
+    let r = routine s at in record { only = λ a. acceptable-meets r m a; every = λ l k h. meets-acceptable r m (formed-fine b f) l k h }
+
+pub least-marking : LeastExists
+least-marking s at b f =
+    let x = least-exists (formed-fine b f) in record { marking = x .marking; least = x .least; only = λ m l. least-unique l (x .least) }
+
+pub one-inference : OneInference
+one-inference s lent x y (left {n = n} {p = p} e) (left {n = n′} {p = p′} e′) = let a : n ≡ n′ = cc in let b : p ≡ p′ = cc in rw (a, b)
+one-inference s lent x y (left e) (marked e′ l) = refused-fine (sym e ∙ e′)
+one-inference s lent x y (marked e l) (left e′) = refused-fine (sym e′ ∙ e)
+one-inference s lent x y (marked {at = at} {m = m} e l) (marked {at = at′} {m = m′} e′ l′) =
+    let a : at ≡ at′ = fine-same (sym e ∙ e′) in
+    let b : m ≡ m′ = least-unique l (rw a l′) in
+    rw b
+
+pub some-inference : SomeInference
+unfolding inferable
+some-inference s lent b = go (inferable s lent) refl
+  where
+    made : {at : Starts} → inferable s lent ≡ fine at → LeastMarking (routine s at) → (x : Left (Unit {0})) × Inferred s lent x
+    made e l = (_, marked e (l .least))
+
+    go : (v : Verdict Starts) → inferable s lent ≡ v → (x : Left (Unit {0})) × Inferred s lent x
+    go (refused n p) e = (_, left e)
+    go (fine at) e =
+        let (at′, f, k) = fine-again (formed s) _ at e in
+        let q : at′ ≡ at = fine-same (passed (leb (routine s at′ .types) (length lent)) _ 9 _ at k .1) in
+        made e (least-marking s at b (rw q at f))
+
+pub rows : Rows
+rows s m at b j =
+    let (f, a) = accepted b j in
+    record {
+      types = λ i l. (omega (arith, f .falls .by i l), a .types i l);
+      homes = λ g y. f .homed y;
+      exprs = λ e l. (f .exprs e l .0, f .exprs e l .1, a .exprs e l);
+      commands = λ c l. (f .commands c l .0, f .commands c l .1, a .commands c l);
+      nulls = λ e t l q. null-ref (formed-read (judged-fine s m j .0)) e t l q;
+      typed = λ e l. type-le f e l;
+      body = f .some;
+    }

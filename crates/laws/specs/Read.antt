@@ -1,5 +1,5 @@
 -- What refusals 1 to 6 leave: a file that earns none stands for a well-formed routine.
-use mathlib.Core.Path.{_≡_, refl}
+use mathlib.Core.Path.{_≡_, refl, sym, ap, _∙_}
 use mathlib.Core.Bool.{true}
 use Prim.Native.Nat.{ℕ, zero, suc, _+_, _*_, _-_, _≤_, _<_, zero-le}
 use native.Mathlib.Nat.{not-suc-le-zero}
@@ -210,6 +210,13 @@ module _ {s : List ℕ} {at : Starts} (read : WellRead s at) where
       let q = at .exprs + 2 + 5 * e in
       expr-fits e (exprAt s q) (expr-small (byte s q) _ _ (half-small bytes (q + 1)) (half-small bytes (q + 3)))
       (parts-true (exprSpare (byte s q) (half s (q + 1)) (half s (q + 3))) _ (read .exprs .good e l) .1)
+
+  pub null-ref : (e t : ℕ) → e < half s (at .exprs) → routine s at .expr e ≡ null t → 1 ≤ t
+  unfolding rowGood
+  null-ref e t l q =
+      let p = at .exprs + 2 + 5 * e in
+      let g = parts-true (exprSpare (byte s p) (half s (p + 1)) (half s (p + 3))) _ (read .exprs .good e l) .1 in
+      in-range 1 t (half s (at .types)) (ap (exprGood (half s (at .types)) (half s (at .homes)) e) (sym q) ∙ g) .0
 
   pub command-row-fits : (c : ℕ) → c < half s (at .commands) → CommandFits (routine s at) c (routine s at .command c)
   unfolding rowGood

@@ -87,6 +87,10 @@ module _ (r : Routine) (m : List ℕ) where
         ap (λ x. sameKind (kind m (suc t)) (kind m u) && choose (deep (kind m (suc t))) (λ _. x) (λ _. true))
         (same-depth d d′ (r .target (suc t)) (r .target u) (omega arith) (omega arith) (omega arith))
 
+    pub same-bound : (d t u : ℕ) → t ≤ r .types → t < d → sameBelow r m d t u ≡ same r m t u
+    unfolding same
+    same-bound d t u l h = same-depth d (suc (r .types)) t u l h (omega arith)
+
     -- below types that are equal and neither int nor DYNAMIC, the targets are equal
     pub same-targets : (t u : ℕ) → t ≤ r .types → deep (kind m t) ≡ true → same r m t u ≡ true → same r m (r .target t) (r .target u) ≡ true
     unfolding same

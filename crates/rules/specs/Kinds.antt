@@ -9,7 +9,7 @@ use Rattle.rules.specs.Basic.{choose, Verdict, guard, firstBad}
 use Rattle.rules.specs.Table.{Expr, Command, Routine, literal, home, cast, null, sum, read, op, skip, seq, store, ifElse, while}
 use Rattle.rules.specs.Shape.{typeOf}
 
--- A reference's kind; int has none.
+-- A reference's kind, or `int` for the type that has none.
 pub data Kind : Type 0 where
   int SAFE SEQ DYNAMIC : Kind
 
@@ -58,7 +58,7 @@ sameBelow r m (suc d) t u =
     sameKind (kind m t) (kind m u)
     && choose (deep (kind m t)) (λ _. sameBelow r m d (r .target t) (r .target u)) (λ _. true)
 
--- Targets fall, so that as many steps as there are types reach int.
+-- Targets fall, so that one step more than there are types is enough.
 unfoldable pub same : Routine → List ℕ → ℕ → ℕ → Bool
 same r m t u = sameBelow r m (suc (r .types)) t u
 

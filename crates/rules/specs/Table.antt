@@ -30,10 +30,11 @@ pub data Command : Type 0 where
   while : ℕ → ℕ → Command
   none : Command
 
--- Tags 0 to 6, then 16 to 24. Tag 2 is none.
+-- The operators by tag, from 16 on.
 abbrev pub operatorOf : ℕ → Operator
 operatorOf k = getD (plus ∷ minus ∷ times ∷ over ∷ rest ∷ equal ∷ less ∷ both ∷ []) k right
 
+-- Tags 0 to 6 but 2, then 16 to 24.
 abbrev pub exprOf : ℕ → ℕ → ℕ → Expr
 exprOf tag a b =
     choose (ltb tag 16)
@@ -57,7 +58,7 @@ pub record Home : Type 0 where
   pub start : ℕ
   pub size : ℕ
 
--- What the later stages ask of a file. `target t` is the type of the cell that a pointer of type t reaches.
+-- What the later stages ask of a file. `target t` is the type of the cell that a pointer of type t, from 1 up, reaches.
 pub record Routine : Type 0 where
   pub types : ℕ
   pub target : ℕ → ℕ

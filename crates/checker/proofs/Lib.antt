@@ -1,0 +1,5 @@
+pub mod KindLaws
+pub mod RowLaws
+pub mod LoopLaws
+pub mod JudgeLaws
+pub mod CheckLaws

@@ -1,0 +1,137 @@
+-- A loop over rows: the first i expressions and c commands are noted. Every acceptable marking follows what is noted, since the rows ask for it.
+use mathlib.Core.Path.{_≡_, refl, _∙_}
+use mathlib.Core.Bool.{true}
+use Prim.Native.Nat.{ℕ, zero, suc, _+_, _≤_, _<_, zero-le, suc-le-suc}
+use native.Mathlib.Nat.{not-suc-le-zero}
+use native.Mathlib.Decide.{ℕ-discrete}
+use native.Mathlib.Omega.{arith}
+use mathlib.Core.List.{List}
+use lib.ListN.{length, getD, replicate, length-replicate, take}
+use Rattle.rules.specs.Table.{Expr, Command, Routine, literal, home, cast, null, sum, read, op, skip, seq, store, ifElse, while}
+use Rattle.rules.specs.Shape.{typeOf}
+use Rattle.rules.specs.Kinds.{kindOf, kind, notSafe, converts, Acceptable}
+use Rattle.rules.specs.Tests.{false-true}
+use Rattle.laws.specs.Convert.{byteOf, from-int}
+use Rattle.raise.specs.Marks.{at, zeros, Below, kept, Raised}
+use Rattle.raise.specs.Demands.{Lists}
+use Rattle.gather.specs.Gathered.{Listed, ExprListed, CommandListed, Targets, Follows, Gathered}
+use Rattle.gather.specs.Notes.{Noted, listed-grows}
+
+pub record Gathering (r : Routine) (i c : ℕ) (P Q m : List ℕ) : Type 0 where
+  pub size : length m ≡ r .types
+  pub lists : Lists (r .types) P Q
+  pub exprs : (e : ℕ) → e < i → ExprListed r P Q m (r .expr e)
+  pub commands : (e : ℕ) → e < c → CommandListed r P Q m (r .command e)
+  pub follows : (w : List ℕ) → Acceptable r w → Follows r P Q m w
+
+-- The same of two arrays of 2,048 with n entries used, at most one for each row.
+pub record Noting (r : Routine) (i c n : ℕ) (F G m : List ℕ) : Type 0 where
+  pub from : length F ≡ 2048
+  pub to : length G ≡ 2048
+  pub count : n ≤ i + c
+  pub rows : Gathering r i c (take n F) (take n G) m
+
+pub noting-counts : {r : Routine} {i j c d n : ℕ} {F G m : List ℕ} → i ≡ j → c ≡ d → Noting r i c n F G m → Noting r j d n F G m
+noting-counts e h g = rw h at (rw e at g)
+
+pub gathered : {r : Routine} {T P Q m : List ℕ} → Targets r T → Gathering r (r .exprs) (r .commands) P Q m → Gathered r T P Q m
+gathered table g = record { size = g .size; table = table; lists = g .lists; exprs = g .exprs; commands = g .commands; follows = g .follows }
+
+-- No row yet, and all SAFE.
+pub noting-none : {r : Routine} {F G m : List ℕ} → length F ≡ 2048 → length G ≡ 2048 → m ≡ replicate (r .types) 0 → Noting r 0 0 0 F G m
+noting-none {r} {m = m} f g z =
+    record {
+      from = f;
+      to = g;
+      count = zero-le;
+      rows =
+          rw z
+          (record {
+            size = length-replicate (r .types) 0;
+            lists = record { size = refl; from = λ j l. absurd (not-suc-le-zero l); to = λ j l. absurd (not-suc-le-zero l) };
+            exprs = λ e l. absurd (not-suc-le-zero l);
+            commands = λ e l. absurd (not-suc-le-zero l);
+            follows = λ w a. record { seeds = record { each = λ i. rw (zeros (r .types) i) zero-le }; convs = λ j l. absurd (not-suc-le-zero l) };
+          });
+    }
+
+-- ---- what rows ask of every acceptable marking
+
+safe-byte : (k : ℕ) → notSafe (kindOf k) ≡ true → 1 ≤ k
+safe-byte zero h = false-true h
+safe-byte (suc k) h = suc-le-suc zero-le
+
+safe-seed : (m : List ℕ) (t : ℕ) → notSafe (kind m t) ≡ true → 1 ≤ byteOf m t
+safe-seed m zero h = false-true h
+safe-seed m (suc t) h = safe-byte (getD m t 0) h
+
+int-converts : (r : Routine) (w : List ℕ) (s t : ℕ) → converts r w s t ≡ true → s ≡ 0 → 1 ≤ t → 1 ≤ byteOf w t
+unfolding converts
+int-converts r w (suc s) t h e l = absurd (omega arith)
+int-converts r w zero zero h e l = absurd (not-suc-le-zero l)
+int-converts r w zero (suc t) h e l = from-int (getD w t 0) true h
+
+-- ---- one row more
+
+expr-kept : (r : Routine) (P Q : List ℕ) {m : List ℕ} (P′ Q′ : List ℕ) {m′ : List ℕ} → Below m m′ → ((a b : ℕ) → Listed P Q m a b → Listed P′ Q′ m′ a b) → (x : Expr)
+    → ExprListed r P Q m x → ExprListed r P′ Q′ m′ x
+expr-kept r P Q P′ Q′ g k (literal n) h = tt
+expr-kept r P Q P′ Q′ g k (home y) h = tt
+expr-kept r P Q P′ Q′ g k (cast a t) h = k (typeOf r a) t h
+expr-kept r P Q P′ Q′ g k (null t) h = tt
+expr-kept r P Q P′ Q′ g k (sum a b) h = kept g (typeOf r a) h
+expr-kept r P Q P′ Q′ g k (read a) h = tt
+expr-kept r P Q P′ Q′ g k (op o a b) h = tt
+expr-kept r P Q P′ Q′ g k Expr.none h = tt
+
+command-kept : (r : Routine) (P Q m P′ Q′ m′ : List ℕ) → ((a b : ℕ) → Listed P Q m a b → Listed P′ Q′ m′ a b) → (x : Command)
+    → CommandListed r P Q m x → CommandListed r P′ Q′ m′ x
+command-kept r P Q m P′ Q′ m′ k skip h = tt
+command-kept r P Q m P′ Q′ m′ k (seq a b) h = tt
+command-kept r P Q m P′ Q′ m′ k (store a b) h = k (typeOf r b) (r .target (typeOf r a)) h
+command-kept r P Q m P′ Q′ m′ k (ifElse a b c) h = tt
+command-kept r P Q m P′ Q′ m′ k (while a b) h = tt
+command-kept r P Q m P′ Q′ m′ k Command.none h = tt
+
+module _ {r : Routine} {i c : ℕ} {P Q m : List ℕ} (g : Gathering r i c P Q m) where
+  -- A conversion that every acceptable marking makes is noted.
+  pub gathering-note : {s t : ℕ} {P′ Q′ m′ : List ℕ} → s ≤ r .types → t ≤ r .types → ((w : List ℕ) → Acceptable r w → converts r w s t ≡ true)
+      → Noted P Q m s t P′ Q′ m′ → Gathering r i c P′ Q′ m′
+  gathering-note {s} {t} {P′} {Q′} {m′} a b f n =
+      record {
+        size = n .size ∙ g .size;
+        lists = n .lists (r .types) a b (g .lists);
+        exprs = λ e l. expr-kept r P Q P′ Q′ (n .grows) (n .before) (r .expr e) (g .exprs e l);
+        commands = λ e l. command-kept r P Q m P′ Q′ m′ (n .before) (r .command e) (g .commands e l);
+        follows = λ w h.
+            let x = g .follows w h in
+            record { seeds = n .below w (x .seeds) (int-converts r w s t (f w h)); convs = n .each (converts r w) (f w h) (x .convs) };
+      }
+
+  -- A type that every acceptable marking has at SEQ or above is a seed.
+  pub gathering-seed : {t : ℕ} {m′ : List ℕ} → ((w : List ℕ) → Acceptable r w → notSafe (kind w t) ≡ true) → Raised m m′ t 1 → Gathering r i c P Q m′
+  gathering-seed {t} {m′} f n =
+      record {
+        size = n .size ∙ g .size;
+        lists = g .lists;
+        exprs = λ e l. expr-kept r P Q P Q (n .grows) (listed-grows P Q (n .grows)) (r .expr e) (g .exprs e l);
+        commands = λ e l. command-kept r P Q m P Q m′ (listed-grows P Q (n .grows)) (r .command e) (g .commands e l);
+        follows = λ w h. let x = g .follows w h in record { seeds = n .below w (x .seeds) (safe-seed w t (f w h)); convs = x .convs };
+      }
+
+  -- A row whose demands are noted has passed.
+  pub gathering-expr : ExprListed r P Q m (r .expr i) → Gathering r (i + 1) c P Q m
+  gathering-expr h =
+      record { size = g .size; lists = g .lists; exprs = λ e l. go e l (ℕ-discrete e i); commands = g .commands; follows = g .follows }
+    where
+      go : (e : ℕ) → e < i + 1 → Dec (e ≡ i) → ExprListed r P Q m (r .expr e)
+      go e l (yes q) = rw q h
+      go e l (no n) = g .exprs e (omega arith)
+
+  pub gathering-command : CommandListed r P Q m (r .command c) → Gathering r i (c + 1) P Q m
+  gathering-command h =
+      record { size = g .size; lists = g .lists; exprs = g .exprs; commands = λ e l. go e l (ℕ-discrete e c); follows = g .follows }
+    where
+      go : (e : ℕ) → e < c + 1 → Dec (e ≡ c) → CommandListed r P Q m (r .command e)
+      go e l (yes q) = rw q h
+      go e l (no n) = g .commands e (omega arith)

@@ -1,0 +1,5 @@
+pub mod Tables
+pub mod Rest
+pub mod Bridge
+pub mod Marked
+pub mod Answers

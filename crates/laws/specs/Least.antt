@@ -1,0 +1,230 @@
+-- A marking of the right length and bytes is acceptable exactly if it meets its routine's demands, so the least solution of these is the
+-- least acceptable marking. It is there because all DYNAMIC is acceptable, and there is one only, since two would be below each other.
+use mathlib.Core.Path.{_≡_, refl, sym, _∙_}
+use mathlib.Core.Bool.{Bool, true}
+use Prim.Native.Nat.{ℕ, zero, suc, _≤_, _<_, zero-le, suc-le-suc}
+use native.Mathlib.Nat.{not-suc-le-zero, le-refl}
+use native.Mathlib.Decide.{ℕ-discrete, decLt}
+use native.Mathlib.Omega.{arith}
+use mathlib.Core.List.{List, _++_}
+use lib.ListN.{length, getD, replicate, length-replicate, getD-replicate, List·getD-eq-default}
+use Rattle.rules.specs.Table.{Expr, Command, Routine, literal, home, cast, null, sum, read, op, skip, seq, store, ifElse, while}
+use Rattle.rules.specs.Kinds.{int, kindOf, kind, notSafe, spreads, exprKind, commandKind, converts, Acceptable}
+use Rattle.rules.specs.Least.{Least}
+use Rattle.rules.specs.Tests.{false-true}
+use Rattle.laws.specs.Convert.{byteOf, Spread}
+use Rattle.laws.specs.Formed.{Fits, CommandFits, Formed, type-le}
+use Rattle.laws.specs.Dynamic.{all-acceptable}
+use Rattle.laws.specs.Graph.{Demand, Meets, Each, Need, nothing, moving, converting, exprNeed, commandNeed, needDemands, targetDemands, typeDemands, exprDemands, commandDemands, gather, demands}
+use Rattle.laws.specs.Solve.{Solution, solved, antisym}
+use Rattle.laws.specs.Demands.{each-split, each-join, conversion-met, met-converts}
+
+pub least-unique : {r : Routine} {m w : List ℕ} → Least r m → Least r w → m ≡ w
+least-unique {r} {m} {w} a b =
+    let l = a .acceptable .size in
+    let k = b .acceptable .size in
+    antisym m w (l ∙ sym k) (λ i h. a .lowest w (b .acceptable) i (omega arith)) (λ i h. b .lowest m (a .acceptable) i (omega arith))
+
+-- ---- rows one after the other
+
+each-gather : (P : Demand → Type 0) (f : ℕ → List Demand) (n : ℕ) → ((i : ℕ) → i < n → Each P (f i)) → Each P (gather f n)
+each-gather P f zero h = tt
+each-gather P f (suc n) h = each-join P (gather f n) (f n) (each-gather P f n (λ i l. h i (omega arith))) (h n (le-refl _))
+
+gather-each : (P : Demand → Type 0) (f : ℕ → List Demand) (n : ℕ) → Each P (gather f n) → (i : ℕ) → i < n → Each P (f i)
+gather-each P f zero h i l = absurd (not-suc-le-zero l)
+gather-each P f (suc n) h i l = let (a, b) = each-split P (gather f n) (f n) h in here b (λ k. gather-each P f n a i k) (ℕ-discrete i n)
+  where
+    here : Each P (f n) → (i < n → Each P (f i)) → Dec (i ≡ n) → Each P (f i)
+    here a b (yes e) = rw e a
+    here a b (no x) = b (omega arith)
+
+-- Each demand is that of a row.
+pub record ByRow (P : Demand → Type 0) (r : Routine) : Type 0 where
+  pub types : (i : ℕ) → i < r .types → Each P (typeDemands r i)
+  pub exprs : (e : ℕ) → e < r .exprs → Each P (exprDemands r e)
+  pub commands : (c : ℕ) → c < r .commands → Each P (commandDemands r c)
+
+pub rows-each : (P : Demand → Type 0) (r : Routine) → ByRow P r → Each P (demands r)
+unfolding demands
+rows-each P r h =
+    each-join P (gather (typeDemands r) (r .types)) (gather (exprDemands r) (r .exprs) ++ gather (commandDemands r) (r .commands))
+    (each-gather P (typeDemands r) (r .types) (h .types))
+    (each-join P (gather (exprDemands r) (r .exprs)) (gather (commandDemands r) (r .commands))
+    (each-gather P (exprDemands r) (r .exprs) (h .exprs))
+    (each-gather P (commandDemands r) (r .commands) (h .commands)))
+
+pub each-rows : (P : Demand → Type 0) (r : Routine) → Each P (demands r) → ByRow P r
+unfolding demands
+each-rows P r h =
+    let (x, y) = each-split P (gather (typeDemands r) (r .types)) (gather (exprDemands r) (r .exprs) ++ gather (commandDemands r) (r .commands)) h in
+    let (u, v) = each-split P (gather (exprDemands r) (r .exprs)) (gather (commandDemands r) (r .commands)) y in
+    record {
+      types = gather-each P (typeDemands r) (r .types) x;
+      exprs = gather-each P (exprDemands r) (r .exprs) u;
+      commands = gather-each P (commandDemands r) (r .commands) v;
+    }
+
+-- ---- a type row
+
+spreads-two : (a b : ℕ) → spreads (kindOf a) (kindOf b) ≡ true → 2 ≤ a → 2 ≤ b
+spreads-two zero b h i = absurd (omega arith)
+spreads-two (suc zero) b h i = absurd (omega arith)
+spreads-two (suc (suc a)) zero h i = false-true h
+spreads-two (suc (suc a)) (suc zero) h i = false-true h
+spreads-two (suc (suc a)) (suc (suc b)) h i = omega arith
+
+two-spreads : (a b : ℕ) → (2 ≤ a → 2 ≤ b) → spreads (kindOf a) (kindOf b) ≡ true
+two-spreads zero b h = refl
+two-spreads (suc zero) b h = refl
+two-spreads (suc (suc a)) zero h = absurd (omega (arith, h (omega arith)))
+two-spreads (suc (suc a)) (suc zero) h = absurd (omega (arith, h (omega arith)))
+two-spreads (suc (suc a)) (suc (suc b)) h = refl
+
+spreads-int : (a : ℕ) → spreads (kindOf a) int ≡ true
+spreads-int zero = refl
+spreads-int (suc zero) = refl
+spreads-int (suc (suc a)) = refl
+
+-- ---- an expression or a command row, by what it asks
+
+abbrev needKind : Routine → List ℕ → Need → Bool
+needKind r m nothing = true
+needKind r m (moving t) = notSafe (kind m t)
+needKind r m (converting s t) = converts r m s t
+
+expr-need : (r : Routine) (m : List ℕ) (x : Expr) → exprKind r m x ≡ needKind r m (exprNeed r x)
+expr-need r m (literal n) = refl
+expr-need r m (home g) = refl
+expr-need r m (cast a t) = refl
+expr-need r m (null t) = refl
+expr-need r m (sum a b) = refl
+expr-need r m (read a) = refl
+expr-need r m (op o a b) = refl
+expr-need r m Expr.none = refl
+
+command-need : (r : Routine) (m : List ℕ) (x : Command) → commandKind r m x ≡ needKind r m (commandNeed r x)
+command-need r m skip = refl
+command-need r m (seq a b) = refl
+command-need r m (store a b) = refl
+command-need r m (ifElse a b c) = refl
+command-need r m (while a b) = refl
+command-need r m Command.none = refl
+
+not-safe : (m : List ℕ) (t : ℕ) → notSafe (kind m t) ≡ true → 1 ≤ byteOf m t
+not-safe m zero h = false-true h
+not-safe m (suc t) h = go (getD m t 0) h
+  where
+    go : (k : ℕ) → notSafe (kindOf k) ≡ true → 1 ≤ k
+    go zero h = false-true h
+    go (suc k) h = suc-le-suc zero-le
+
+safe-not : (m : List ℕ) (t : ℕ) → 1 ≤ byteOf m t → notSafe (kind m t) ≡ true
+safe-not m zero h = absurd (not-suc-le-zero h)
+safe-not m (suc t) h = go (getD m t 0) h
+  where
+    go : (k : ℕ) → 1 ≤ k → notSafe (kindOf k) ≡ true
+    go zero h = absurd (not-suc-le-zero h)
+    go (suc zero) h = refl
+    go (suc (suc k)) h = refl
+
+-- The source of a conversion is a type that there is.
+abbrev NeedFits : Routine → Need → Type 0
+NeedFits r nothing = Unit {0}
+NeedFits r (moving t) = Unit {0}
+NeedFits r (converting s t) = s ≤ r .types
+
+module _ {r : Routine} (formed : Formed r) where
+  expr-fits : {e : ℕ} (x : Expr) → e < r .exprs → Fits r e x → NeedFits r (exprNeed r x)
+  expr-fits (literal n) l y = tt
+  expr-fits (home g) l y = tt
+  expr-fits (cast a t) l y = type-le formed a (omega (arith, y .0))
+  expr-fits (null t) l y = tt
+  expr-fits (sum a b) l y = tt
+  expr-fits (read a) l y = tt
+  expr-fits (op o a b) l y = tt
+  expr-fits Expr.none l y = tt
+
+  command-fits : (c : ℕ) (x : Command) → CommandFits r c x → NeedFits r (commandNeed r x)
+  command-fits c skip y = tt
+  command-fits c (seq a b) y = tt
+  command-fits c (store a b) y = type-le formed b (y .1)
+  command-fits c (ifElse a b d) y = tt
+  command-fits c (while a b) y = tt
+  command-fits c Command.none y = tt
+
+module _ (r : Routine) (m : List ℕ) where
+  target-met : (p i t : ℕ) → spreads (kindOf (getD m i 0)) (kind m t) ≡ true → Each (Meets m) (targetDemands p (suc i) t)
+  target-met p i zero h = tt
+  target-met p i (suc t) h = (spreads-two (getD m i 0) (getD m t 0) h, tt)
+
+  met-target : (p i t : ℕ) → Each (Meets m) (targetDemands p (suc i) t) → spreads (kindOf (getD m i 0)) (kind m t) ≡ true
+  met-target p i zero h = spreads-int (getD m i 0)
+  met-target p i (suc t) h = two-spreads (getD m i 0) (getD m t 0) (h .0)
+
+  need-met : Spread r m → (p : ℕ) (x : Need) → needKind r m x ≡ true → Each (Meets m) (needDemands r p x)
+  need-met s p nothing h = tt
+  need-met s p (moving t) h = (not-safe m t h, tt)
+  need-met s p (converting a t) h = conversion-met r m p s a t h
+
+  met-need : Formed r → (p : ℕ) (x : Need) → NeedFits r x → Each (Meets m) (needDemands r p x) → needKind r m x ≡ true
+  met-need f p nothing l h = refl
+  met-need f p (moving t) l h = safe-not m t (h .0)
+  met-need f p (converting s t) l h = met-converts r m p (f .falls) s t l h
+
+  -- ---- all rows
+
+  spread : Acceptable r m → Spread r m
+  spread a t h i e = go (decLt t (r .types))
+    where
+      go : Dec (t < r .types) → 2 ≤ getD m i 0
+      go (yes l) = let s : spreads (kindOf (getD m t 0)) (kind m (suc i)) ≡ true = rw e at (a .types t l) in spreads-two (getD m t 0) (getD m i 0) s h
+      go (no n) = absurd (omega (arith, List·getD-eq-default m 0 {n = t} (omega (arith, a .size))))
+
+  pub acceptable-meets : Acceptable r m → Each (Meets m) (demands r)
+  acceptable-meets a =
+      let s = spread a in
+      rows-each (Meets m) r
+      (record {
+        types = λ i l. target-met (r .typePlace (suc i)) i (r .target (suc i)) (a .types i l);
+        exprs = λ e l. need-met s (r .exprPlace e) (exprNeed r (r .expr e)) (sym (expr-need r m (r .expr e)) ∙ a .exprs e l);
+        commands = λ c l. need-met s (r .commandPlace c) (commandNeed r (r .command c)) (sym (command-need r m (r .command c)) ∙ a .commands c l);
+      })
+
+  pub meets-acceptable : Formed r → length m ≡ r .types → ((i : ℕ) → i < r .types → getD m i 0 ≤ 2) → Each (Meets m) (demands r) → Acceptable r m
+  meets-acceptable f l b h =
+      let x = each-rows (Meets m) r h in
+      record {
+        size = l;
+        bytes = b;
+        types = λ i k. met-target (r .typePlace (suc i)) i (r .target (suc i)) (x .types i k);
+        exprs = λ e k.
+            expr-need r m (r .expr e)
+            ∙ met-need f (r .exprPlace e) (exprNeed r (r .expr e)) (expr-fits f (r .expr e) k (f .exprs e k .0)) (x .exprs e k);
+        commands = λ c k.
+            command-need r m (r .command c)
+            ∙ met-need f (r .commandPlace c) (commandNeed r (r .command c)) (command-fits f c (r .command c) (f .commands c k .0)) (x .commands c k);
+      }
+
+-- ---- the least marking
+
+pub record LeastOf (r : Routine) : Type 0 where
+  pub marking : List ℕ
+  pub least : Least r marking
+
+pub least-exists : {r : Routine} → Formed r → LeastOf r
+least-exists {r} f = record { marking = x .marking; least = record { acceptable = good; lowest = λ w a i l. x .lowest w (acceptable-meets r w a) i } }
+  where
+    top : List ℕ
+    top = replicate (r .types) 2
+
+    met : Each (Meets top) (demands r)
+    met = acceptable-meets r top (all-acceptable f)
+
+    x : Solution (demands r) (length top)
+    x = solved (demands r) top met
+
+    good : Acceptable r (x .marking)
+    good =
+        meets-acceptable r (x .marking) f (x .size ∙ length-replicate (r .types) 2)
+        (λ i l. omega (arith, x .lowest top met i, getD-replicate {A = ℕ} (r .types) i 2 0 l)) (x .meets)

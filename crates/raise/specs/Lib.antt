@@ -1,0 +1,3 @@
+pub mod Marks
+pub mod Demands
+pub mod Moves

@@ -1,0 +1,7 @@
+//! `peer test` with a small count, which still meets every boundary file.
+
+#[test]
+fn generated_files() {
+    let tally = peer::selftest::test(1500);
+    assert_eq!(tally.failed, 0, "{:#?}", tally.failures);
+}
