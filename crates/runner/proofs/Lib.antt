@@ -2,3 +2,4 @@ pub mod Parts
 pub mod Cells
 pub mod Places
 pub mod Whole
+pub mod Calls

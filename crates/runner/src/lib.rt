@@ -1,17 +1,20 @@
-// A whole run of a file under a marking that earn no refusal: the table, the starting memory, the body, and the report.
+// The run of a file under a marking: refusals, the table, the starting memory, the body, and the report.
 use execute::Ran;
 use rules::Outcome;
+use rules::ReadAnswer;
+use rules::Refusal;
 use rules::Report;
+use rules::RunAnswer;
 use rules::Starts;
 ghost use mathlib.Core.Path.{_≡_};
 ghost use Prim.Native.Nat.{ℕ, _+_, _≤_, _<_};
 ghost use lib.ListN.{length};
-ghost use Rattle.rules.specs.declared.RunAnswer.{RunAnswer};
 ghost use Rattle.rules.specs.Table.{routine};
 ghost use Rattle.rules.specs.Memory.{encode};
 ghost use Rattle.rules.specs.Run.{startValue, start, run};
 ghost use Rattle.rules.specs.Basic.{half};
-ghost use Rattle.rules.specs.Calls.{cellCount, runSays, reported, Left, Ended};
+ghost use Rattle.rules.specs.Calls.{cellCount, runSays, reported, running, Left, Ended};
+ghost use Rattle.view.specs.WellRead.{WellRead};
 ghost use Rattle.filling.specs.Filling.{kindAt, Accepted, ReferenceReady};
 ghost use Rattle.runner.specs.Whole.{spread, entryIn, placeAt, reportOf, Reportable};
 
@@ -70,6 +73,21 @@ fn start(file: &[u8], at: Starts, marking: &[u8], ty: &[u16; 1024], n: usize, me
     }
 }
 
+// The cells of a file's homes.
+fn count(file: &[u8], at: Starts, n: usize) -> usize
+    requires { ⌜ WellRead (now file) at × (n ≡ half (now file) (at .homes)) ⌝ }
+    ensures { λ r. ⌜ r ≡ cellCount (routine (now (file .entry)) at) ⌝ }
+{
+    let mut g: usize = 0;
+    let mut cells: usize = 0;
+    while g < n {
+        let row = view::home_row(file, at, g + 1);
+        cells = cells + row.size as usize;
+        g = g + 1;
+    }
+    cells
+}
+
 // ---- the report
 
 // A row's place: its number in the table tells its section.
@@ -124,4 +142,44 @@ pub fn run_checked(
     let body = n.commands as u32 - 1;
     let ran = execute::exec(&t, memory, body, fuel);
     report(at, ran, fuel)
+}
+
+// The same in memory of any length: refusal 9.
+fn run_accepted(
+    file: &[u8],
+    at: Starts,
+    marking: &[u8],
+    ty: &[u16; 1024],
+    fuel: u32,
+    memory: &mut [u64],
+) -> RunAnswer
+    requires { ⌜ Accepted (now file) at (now marking) (now ty) ⌝ }
+    ensures { λ r. ⌜ _≡_ {A = Left Ended} (record { answer = runSays r; lent = now (memory .exit) }) (running (now (file .entry)) (now (marking .entry)) fuel (now (memory .entry))) ⌝ }
+{
+    let n = view::row_counts(file, at);
+    let needed = count(file, at, n.homes as usize);
+    if memory.len() < needed {
+        return RunAnswer::Refused(Refusal {
+            number: 9,
+            place: needed as u32,
+        });
+    }
+    let report = run_checked(file, at, marking, ty, fuel, memory);
+    RunAnswer::Ran(report)
+}
+
+// A file is run under a marking, with this fuel, in lent memory. A refused call writes nothing.
+pub fn run(file: &[u8], marking: &[u8], fuel: u32, memory: &mut [u64]) -> RunAnswer
+    ensures { λ r. ⌜ _≡_ {A = Left Ended} (record { answer = runSays r; lent = now (memory .exit) }) (running (now (file .entry)) (now (marking .entry)) fuel (now (memory .entry))) ⌝ }
+{
+    let mut ty = [0u16; 1024];
+    let judged = checker::check_typed(file, marking, &mut ty);
+    match judged {
+        ReadAnswer::Refused(n) => {
+            return RunAnswer::Refused(n);
+        }
+        ReadAnswer::WellFormed(at) => {
+            return run_accepted(file, at, marking, &ty, fuel, memory);
+        }
+    }
 }
