@@ -1,0 +1,175 @@
+// Expression rows, run from the table.
+use cells::Found;
+use rules::Value;
+use table::a_of;
+use table::high;
+use table::op_of;
+ghost use mathlib.Core.Path.{_≡_};
+ghost use Prim.Native.Nat.{ℕ, _/_, _%_, _≤_, _<_};
+ghost use Rattle.table.specs.Words.{Named};
+ghost use Rattle.evaluate.specs.Rows.{Asked, Operands, Inside, Ready, told, meant, entered, leafValue, says, numberIn, loadIn, loadIntIn, oneIn, twoIn};
+
+// A value, beside the fuel left.
+pub struct Got {
+    pub left: u32,
+    pub value: Value,
+}
+
+// No fuel for a row; or a check's number, its row and the fuel left. Rows are numbered as in the table.
+pub enum Stop {
+    Fuel(u32),
+    Check(u32, u32, u32),
+}
+
+pub enum Answer {
+    Done(Got),
+    Stopped(Stop),
+}
+
+fn done(value: Value, left: u32) -> Answer
+    ensures { λ r. ⌜ r ≡ Answer.Done (record { left = left; value = value }) ⌝ }
+{
+    Answer::Done(Got { left, value })
+}
+
+fn check(k: u32, row: u32, left: u32) -> Answer
+    ensures { λ r. ⌜ r ≡ Answer.Stopped (Stop.Check k row left) ⌝ }
+{
+    Answer::Stopped(Stop::Check(k, row, left))
+}
+
+// A literal, a home or a null.
+fn leaf(w: u64, left: u32) -> Answer
+    ensures { λ r. ⌜ r ≡ Answer.Done (record { left = left; value = leafValue (w % 256) (w / 4294967296) }) ⌝ }
+{
+    if op_of(w) == 0 {
+        return done(Value::Number(high(w)), left);
+    }
+    done(Value::Pair(high(w), 0), left)
+}
+
+// ---- one operand
+
+fn number(row: u32, x: Found, left: u32) -> Answer
+    ensures { λ r. ⌜ r ≡ numberIn row left x ⌝ }
+{
+    match x {
+        Found::Is(n) => done(Value::Number(n), left),
+        Found::Fails(k) => check(k, row, left),
+    }
+}
+
+fn load(memory: &[u64], row: u32, x: Found, left: u32) -> Answer
+    requires { ⌜ ((a : ℕ) → x ≡ Found.Is a → Inside (now memory) a) ⌝ }
+    ensures { λ r. ⌜ r ≡ loadIn (now (memory .entry)) row left x ⌝ }
+{
+    match x {
+        Found::Is(a) => done(cells::decode(memory[(a - 1) as usize]), left),
+        Found::Fails(k) => check(k, row, left),
+    }
+}
+
+// A cell of a DYNAMIC home, read as an int.
+fn load_int(t: &[u64; 2113], memory: &[u64], row: u32, x: Found, left: u32) -> Answer
+    requires { ⌜ ((a : ℕ) → x ≡ Found.Is a → Inside (now memory) a) ⌝ }
+    ensures { λ r. ⌜ r ≡ loadIntIn (now (t .entry)) (now (memory .entry)) row left x ⌝ }
+{
+    match x {
+        Found::Is(a) => {
+            let v = cells::decode(memory[(a - 1) as usize]);
+            done(Value::Number(cells::to_int(t, v)), left)
+        }
+        Found::Fails(k) => check(k, row, left),
+    }
+}
+
+fn one(t: &[u64; 2113], memory: &[u64], op: u64, row: u32, x: Got) -> Answer
+    requires { ⌜ Ready (now t) (now memory) op (x .value) ⌝ }
+    ensures { λ r. ⌜ r ≡ says row (x .left) (oneIn (now (t .entry)) (now (memory .entry)) op (x .value)) ⌝ }
+{
+    let v = x.value;
+    let left = x.left;
+    match op {
+        2 => done(Value::Number(cells::to_int(t, v)), left),
+        3 => done(cells::to_pair(v), left),
+        4 => number(row, cells::to_safe(t, v), left),
+        5 => load(memory, row, cells::reach_safe(v), left),
+        6 => load(memory, row, cells::reach_seq(t, v), left),
+        7 => load(memory, row, cells::reach_dynamic(t, v), left),
+        _ => load_int(t, memory, row, cells::reach_dynamic(t, v), left),
+    }
+}
+
+// ---- two operands
+
+fn two(op: u64, row: u32, v: Value, y: Got) -> Answer
+    requires { ⌜ 9 ≤ op ⌝ }
+    ensures { λ r. ⌜ r ≡ says row (y .left) (twoIn op v (y .value)) ⌝ }
+{
+    let k = y.value;
+    let left = y.left;
+    let n = cells::number(k);
+    if op == 9 {
+        return done(cells::plus(v, n), left);
+    }
+    number(row, cells::applied(op - 10, cells::number(v), n), left)
+}
+
+// ---- rows
+
+// The same answer, made anew: the compiler then keeps a call's answer in registers.
+fn on(x: Answer) -> Answer
+    ensures { λ r. ⌜ r ≡ x ⌝ }
+{
+    match x {
+        Answer::Done(y) => {
+            let v = y.value;
+            match v {
+                Value::Number(n) => done(Value::Number(n), y.left),
+                Value::Pair(g, n) => done(Value::Pair(g, n), y.left),
+            }
+        }
+        Answer::Stopped(s) => match s {
+            Stop::Fuel(row) => Answer::Stopped(Stop::Fuel(row)),
+            Stop::Check(k, row, left) => check(k, row, left),
+        },
+    }
+}
+
+// A row of the word w that has been entered and has operands: the operands left to right, then the row's rule.
+fn compound(t: &[u64; 2113], memory: &[u64], row: u32, w: u64, left: u32) -> Answer
+    requires { ⌜ Operands (now t) (now memory) row w ⌝ }
+    ensures { λ x. ⌜ ((g : Asked (now (t .entry)) (now (memory .entry)) row) → told (g .table .routine) x ≡ entered g left) ⌝ }
+{
+    let op = op_of(w);
+    let first = eval(t, memory, a_of(w), left);
+    let Answer::Done(x) = first else {
+        return on(first);
+    };
+    if op < 9 {
+        return one(t, memory, op, row, x);
+    }
+    let v = x.value;
+    let second = eval(t, memory, high(w), x.left);
+    let Answer::Done(y) = second else {
+        return on(second);
+    };
+    two(op, row, v, y)
+}
+
+// The row's value with the fuel left, or what stopped it.
+pub fn eval(t: &[u64; 2113], memory: &[u64], row: u32, fuel: u32) -> Answer
+    requires { ⌜ Asked (now t) (now memory) row ⌝ }
+    ensures { λ x. ⌜ ((g : Asked (now (t .entry)) (now (memory .entry)) row) → told (g .table .routine) x ≡ meant g fuel) ⌝ }
+{
+    if fuel == 0 {
+        return Answer::Stopped(Stop::Fuel(row));
+    }
+    let left = fuel - 1;
+    let w = t[row as usize];
+    if op_of(w) < 2 {
+        return leaf(w, left);
+    }
+    let x = compound(t, memory, row, w, left);
+    on(x)
+}

@@ -1,0 +1,70 @@
+-- What the carrying out of a command row from its word is held to: the answer, and every entry of the memory.
+use mathlib.Core.Path.{_≡_}
+use Prim.Native.Nat.{ℕ, _+_, _%_, _<_}
+use mathlib.Core.List.{List}
+use lib.ListN.{getD}
+use Rattle.rules.specs.Table.{Home, Routine}
+use Rattle.rules.specs.Shape.{typeOf}
+use Rattle.rules.specs.Kinds.{kind}
+use Rattle.rules.specs.Memory.{put}
+use Rattle.rules.specs.Values.{kept}
+use Rattle.rules.specs.Run.{noFuel, Ran as Runs, done, halted, eval, commandRow, exec}
+use Rattle.rules.specs.Valid.{ValidState}
+use Rattle.laws.specs.Forget.{value, rule}
+use Rattle.table.specs.Words.{firstFor, secondFor, Tabled, state}
+use Rattle.evaluate.specs.declared.Stop.the-variants as stop
+use Rattle.evaluate.specs.declared.Answer.{Answer}
+use Rattle.evaluate.specs.declared.Answer.the-variants as answer
+use Rattle.evaluate.specs.Rows.{placeOf, failing, Inside}
+use Rattle.execute.specs.declared.Ran.{Ran}
+use Rattle.execute.specs.declared.Ran.the-variants.{Done, Fuel, Check}
+
+-- ---- the code's answer and the memory, as the rules say them
+
+abbrev pub ranTold : Routine → List Home → Ran → List ℕ → Runs
+ranTold r hs (Done f) memory = done (record { homes = hs; memory = memory }) f
+ranTold r hs (Fuel i) memory = halted (record { homes = hs; memory = memory }) (noFuel (placeOf r i))
+ranTold r hs (Check n i f) memory = halted (record { homes = hs; memory = memory }) (failing n (placeOf r i) f)
+
+abbrev pub stoppedOf : Answer → Ran
+stoppedOf (answer.Done x) = Done (x .left)
+stoppedOf (answer.Stopped (stop.Fuel i)) = Fuel i
+stoppedOf (answer.Stopped (stop.Check n i f)) = Check n i f
+
+-- ---- a command row of a table's routine, in a valid memory
+
+pub record Commanded (t memory : List ℕ) (row : ℕ) : Type 0 where
+  pub table : Tabled t
+  pub valid : ValidState (table .routine) (table .marking) (state table memory)
+  pub inside : row < table .routine .commands
+
+module _ {t memory : List ℕ} {row : ℕ} (g : Commanded t memory row) where
+  -- What the rules say of the row, and of the row once it has been entered.
+  abbrev pub meantRun : ℕ → Runs
+  meantRun f = exec (g .table .routine) (g .table .marking) (state (g .table) memory) row f .answer
+
+  abbrev pub enteredRun : ℕ → Runs
+  enteredRun f =
+      commandRow (g .table .routine) (g .table .marking) (λ w a f₁. exec (g .table .routine) (g .table .marking) w a f₁)
+      (g .table .routine .commandPlace row) (g .table .routine .command row) (state (g .table) memory) f .answer
+
+  -- A store whose pointer has reached address c.
+  abbrev pub storingRun : ℕ → ℕ → Runs
+  storingRun c f =
+      let r = g .table .routine in
+      let m = g .table .marking in
+      let x = r .command row in
+      let pointer = typeOf r (firstFor x) in
+      value (halted (state (g .table) memory)) (eval r m (state (g .table) memory) (secondFor x) f .answer) λ v f₁.
+      rule (halted (state (g .table) memory)) (r .commandPlace row) f₁ (kept (state (g .table) memory) (kind m pointer) (kind m (r .target pointer)) v) λ u.
+      done (put (state (g .table) memory) c u) f₁
+
+-- Its word, of this operation.
+pub record Entered (t memory : List ℕ) (row w o : ℕ) : Type 0 where
+  pub asked : Commanded t memory row
+  pub word : w ≡ getD t (1024 + row) 0
+  pub op : w % 256 ≡ o
+
+pub record Storing (t memory : List ℕ) (row w a : ℕ) : Type 0 where
+  pub entered : Entered t memory row w 2
+  pub inside : Inside memory a

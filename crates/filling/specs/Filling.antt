@@ -1,0 +1,78 @@
+-- What the filling of the table goes by, and what it leaves.
+use mathlib.Core.Path.{_≡_}
+use Prim.Native.Nat.{ℕ, _+_, _≤_, _<_}
+use mathlib.Core.List.{List, [], _∷_}
+use lib.ListN.{getD, length}
+use Rattle.rules.specs.declared.Starts.{Starts}
+use Rattle.rules.specs.Basic.{half, fine}
+use Rattle.rules.specs.Table.{routine}
+use Rattle.rules.specs.Shape.{typeOf}
+use Rattle.rules.specs.Kinds.{Kind, int, SAFE, SEQ, DYNAMIC}
+use Rattle.rules.specs.Calls.{judged}
+use Rattle.laws.specs.Promises.{Bytes}
+use Rattle.table.specs.Words.{startIn, Homes, ExprWord, CommandWord}
+use Rattle.view.specs.WellRead.{WellRead}
+use Rattle.view.specs.Rows.{typeRow, homeRow, TypeAsked, HomeAsked}
+
+-- ---- kinds by number
+
+abbrev pub kindAt : ℕ → Kind
+kindAt k = getD (int ∷ SAFE ∷ SEQ ∷ []) k DYNAMIC
+
+-- A SAFE home is its address in the table.
+abbrev pub homeFieldIn : List ℕ → Kind → ℕ → ℕ
+homeFieldIn t int g = g
+homeFieldIn t SAFE g = startIn t g
+homeFieldIn t SEQ g = g
+homeFieldIn t DYNAMIC g = g
+
+-- Type t has a byte in the marking, and bytes are kinds.
+pub record Kinded (m : List ℕ) (t : ℕ) : Type 0 where
+  pub inside : t ≤ length m
+  pub small : (i : ℕ) → i < length m → getD m i 0 ≤ 2
+
+-- ---- a file and a marking that earn no refusal, and a table of the types of its expression rows
+
+pub record Accepted (s : List ℕ) (at : Starts) (m ty : List ℕ) : Type 0 where
+  pub bytes : Bytes s
+  pub verdict : judged s m ≡ fine at
+  pub types : (e : ℕ) → e < half s (at .exprs) → getD ty e 0 ≡ typeOf (routine s at) e
+
+pub record HomeReady (s : List ℕ) (at : Starts) (m : List ℕ) (g : ℕ) : Type 0 where
+  pub home : HomeAsked s at g
+  pub few : g < 65
+  pub kind : Kinded m (homeRow s at g .ty)
+
+pub record ReferenceReady (s : List ℕ) (at : Starts) (m : List ℕ) (p : ℕ) : Type 0 where
+  pub type : TypeAsked s at p
+  pub kind : Kinded m p
+  pub target : Kinded m (typeRow s at p .target)
+
+pub record ExprReady (s : List ℕ) (at : Starts) (m ty t : List ℕ) (e : ℕ) : Type 0 where
+  pub accepted : Accepted s at m ty
+  pub homes : Homes (routine s at .homes) t
+  pub row : e < half s (at .exprs)
+
+pub record CommandReady (s : List ℕ) (at : Starts) (m ty : List ℕ) (c : ℕ) : Type 0 where
+  pub accepted : Accepted s at m ty
+  pub row : c < half s (at .commands)
+
+-- ---- the table, filled step by step
+
+pub record Blank (s : List ℕ) (at : Starts) (n : ℕ) (t : List ℕ) : Type 0 where
+  pub file : WellRead s at
+  pub count : n ≡ half s (at .homes)
+  pub size : length t ≡ 2113
+  pub empty : (k : ℕ) → getD t k 0 ≡ 0
+
+pub record HomesDone (s : List ℕ) (at : Starts) (t : List ℕ) : Type 0 where
+  pub size : length t ≡ 2113
+  pub homes : Homes (routine s at .homes) t
+
+pub record ExprsDone (s : List ℕ) (at : Starts) (m : List ℕ) (n : ℕ) (t : List ℕ) : Type 0 where
+  pub before : HomesDone s at t
+  pub words : (e : ℕ) → e < n → ExprWord (routine s at) m (routine s at .homes) (routine s at .expr e) (getD t e 0)
+
+pub record CommandsDone (s : List ℕ) (at : Starts) (m : List ℕ) (n : ℕ) (t : List ℕ) : Type 0 where
+  pub before : ExprsDone s at m (half s (at .exprs)) t
+  pub words : (c : ℕ) → c < n → CommandWord (routine s at) m (routine s at .command c) (getD t (1024 + c) 0)

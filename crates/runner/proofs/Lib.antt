@@ -1,0 +1,5 @@
+pub mod Parts
+pub mod Cells
+pub mod Places
+pub mod Whole
+pub mod Calls
