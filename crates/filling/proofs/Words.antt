@@ -18,8 +18,8 @@ use Rattle.rules.specs.Tests.{parts-true, in-range, false-true}
 use Rattle.laws.specs.Formed.{Formed, type-le}
 use Rattle.laws.specs.Read.{judged-fine, formed-fine}
 use Rattle.table.specs.Words.{Packed, PackedCommand, homeOp, homeField, nullOp, castOp, readOp, operatorOp, accessOf, keepOf, ExprWord, CommandWord, Homes}
-use Rattle.view.specs.WellRead.{WellRead}
-use Rattle.view.specs.Known.{formed-known}
+use Rattle.laws.specs.WellRead.{WellRead}
+use Rattle.laws.specs.Known.{formed-known}
 use Rattle.view.specs.Means.{expr-means, command-means, home-has, home-in-range, expr-in-range, command-in-range}
 use Rattle.view.specs.Tags.{expr-none, expr-op, expr-over}
 use Rattle.view.specs.declared.ExprRow.{ExprRow}

@@ -11,7 +11,7 @@ use Rattle.rules.specs.Kinds.{Kind, int, SAFE, SEQ, DYNAMIC}
 use Rattle.rules.specs.Calls.{judged}
 use Rattle.laws.specs.Promises.{Bytes}
 use Rattle.table.specs.Words.{startIn, Homes, ExprWord, CommandWord}
-use Rattle.view.specs.WellRead.{WellRead}
+use Rattle.laws.specs.WellRead.{WellRead}
 use Rattle.view.specs.Rows.{typeRow, homeRow, TypeAsked, HomeAsked}
 
 -- ---- kinds by number

@@ -16,7 +16,7 @@ use Rattle.laws.specs.Start.{start-ok}
 use Rattle.laws.specs.Sound.{exec-ok}
 use Rattle.laws.specs.Units.{exec-spends}
 use Rattle.table.specs.Words.{Tabled}
-use Rattle.view.specs.WellRead.{WellRead}
+use Rattle.laws.specs.WellRead.{WellRead}
 use Rattle.filling.specs.Filling.{Accepted, CommandsDone}
 use Rattle.filling.proofs.Words.{known, well, fit}
 use Rattle.evaluate.specs.Rows.{failing}

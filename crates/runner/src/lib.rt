@@ -14,7 +14,7 @@ ghost use Rattle.rules.specs.Memory.{encode};
 ghost use Rattle.rules.specs.Run.{startValue, start, run};
 ghost use Rattle.rules.specs.Basic.{half};
 ghost use Rattle.rules.specs.Calls.{cellCount, runSays, reported, running, Left, Ended};
-ghost use Rattle.view.specs.WellRead.{WellRead};
+ghost use Rattle.laws.specs.WellRead.{WellRead};
 ghost use Rattle.filling.specs.Filling.{kindAt, Accepted, ReferenceReady};
 ghost use Rattle.runner.specs.Whole.{spread, entryIn, placeAt, reportOf, Reportable};
 
