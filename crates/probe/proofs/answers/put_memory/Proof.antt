@@ -1,0 +1,79 @@
+-- A loop over the memory: its index stays inside.
+use mathlib.Core.Path.{_≡_}
+use Prim.Native.Nat.{_≤_, _-_}
+use borrow.Author.Needs.{needs}
+use lib.ListN.{length}
+use Rattle.probe.proofs.answers.put_memory.Statement.{statement}
+use Rattle.probe.proofs.answers.put_memory.Tie as tie
+use Rattle.probe.proofs.answers.put_memory.Reads as reads
+use Rattle.probe.proofs.answers.put_memory.Lts as lts
+use Rattle.probe.proofs.answers.put_next.Reads as put-next-reads
+use Rattle.probe.proofs.lines.put_word.Reads as put-word-reads
+
+abbrev Inv-loop : tie.InvT-loop
+Inv-loop out₀ at memory end₀ i₀ out end i = (i ≤ length memory) × (length out ≡ length out₀)
+
+abbrev μ-loop : tie.MeasureT-loop
+μ-loop out₀ at memory end₀ i₀ out end i = length memory - i
+
+-- src/answers.rt:104:37
+slice-aggregate-put-word : tie.Need-slice-aggregate-put-word Inv-loop μ-loop
+slice-aggregate-put-word c = search needs
+
+-- src/answers.rt:104:9
+put-word-requires : tie.Need-put-word-requires Inv-loop μ-loop
+put-word-requires c κs = search needs
+
+-- src/answers.rt:106:5
+loop-holds : tie.Need-loop-holds Inv-loop μ-loop
+loop-holds c = search needs
+
+-- src/answers.rt:107:34
+mul-put-next : tie.Need-mul-put-next Inv-loop μ-loop
+mul-put-next c = search needs
+
+-- src/answers.rt:107:34
+shared-slice-read-put-next : tie.Need-shared-slice-read-put-next Inv-loop μ-loop
+shared-slice-read-put-next c = search needs
+
+-- src/answers.rt:107:9
+put-next-requires : tie.Need-put-next-requires Inv-loop μ-loop
+put-next-requires c κs = search needs
+
+-- src/answers.rt:108:9
+add-i : tie.Need-add-i Inv-loop μ-loop
+add-i c = search needs
+
+-- src/answers.rt:106:5
+loop-less : tie.Need-loop-less Inv-loop μ-loop
+loop-less c = search needs
+
+-- src/answers.rt:106:5
+loop-again : tie.Need-loop-again Inv-loop μ-loop
+loop-again c = search needs
+
+-- src/answers.rt:103:1
+same-length : tie.Need-same-length Inv-loop μ-loop
+same-length c = search needs
+
+-- src/answers.rt:103:1
+returns : tie.Need-returns Inv-loop μ-loop
+returns c = search needs
+
+pub put-memory-spec : {M : Type 1} → statement M
+put-memory-spec =
+    tie.close
+    (tie.spec
+    Inv-loop
+    μ-loop
+    slice-aggregate-put-word
+    put-word-requires
+    loop-holds
+    mul-put-next
+    shared-slice-read-put-next
+    put-next-requires
+    add-i
+    loop-less
+    loop-again
+    same-length
+    returns)

@@ -1,0 +1,28 @@
+-- The part that is written is as long as it says.
+use mathlib.Core.Path.{sym}
+use lib.Seq.{length-take-le}
+use borrow.Author.Needs.{needs}
+use Rattle.probe.proofs.lines.flush.Statement.{statement}
+use Rattle.probe.proofs.lines.flush.Tie as tie
+use Rattle.probe.proofs.lines.flush.Reads as reads
+use Rattle.probe.proofs.lines.flush.Lts as lts
+use Rattle.io.proofs.write_all.Reads as write-all-reads
+
+-- src/lines.rt:43:38
+slice-aggregate-write-all : tie.Need-slice-aggregate-write-all
+slice-aggregate-write-all c = sym (length-take-le _ _ (c .before .if1 .taken))
+
+-- src/lines.rt:43:9
+write-all-requires : tie.Need-write-all-requires
+write-all-requires c κs = search needs
+
+-- src/lines.rt:41:1
+returns : tie.Need-returns
+returns c = search needs
+
+-- src/lines.rt:41:1
+returns-2 : tie.Need-returns-2
+returns-2 c = search needs
+
+pub flush-spec : {M : Type 1} → statement M
+flush-spec = tie.close (tie.spec slice-aggregate-write-all write-all-requires returns returns-2)
