@@ -7,8 +7,9 @@ mod ours;
 use std::hint::black_box;
 use std::time::Instant;
 
+use peer::builder::Builder;
+use peer::rows::Type;
 use peer::samples::{self, Sample};
-use peer::{Builder, Type};
 
 const ROUNDS: usize = 7;
 
