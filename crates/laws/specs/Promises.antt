@@ -12,7 +12,7 @@ use Rattle.rules.specs.declared.ReadAnswer.{ReadAnswer}
 use Rattle.rules.specs.declared.CheckAnswer.{CheckAnswer}
 use Rattle.rules.specs.declared.InferAnswer.{InferAnswer}
 use Rattle.rules.specs.declared.RunAnswer.{RunAnswer}
-use Rattle.rules.specs.Basic.{byte, width, fine}
+use Rattle.rules.specs.Basic.{byte, width, fine, refused}
 use Rattle.rules.specs.Table.{Routine, routine, null}
 use Rattle.rules.specs.Kinds.{Kind, SAFE, kind, notSafe, sameBelow, same, typeKind, exprKind, commandKind, Acceptable}
 use Rattle.rules.specs.Shape.{homeAt, typeOf, exprShaped, commandShaped}
@@ -23,7 +23,7 @@ use Rattle.rules.specs.Ruled.{Check, check2, gives, fails}
 use Rattle.rules.specs.Values.{convert, reach, moved}
 use Rattle.rules.specs.Run.{Stop, noFuel, failed, noRule, Ran, done, halted, start, run}
 use Rattle.rules.specs.Valid.{Real, InHome, Valid, ValidState}
-use Rattle.rules.specs.Calls.{formed, judged, cellCount, outOfFuel, endingOf, stateOf, Left, Ended as Report, Inferred, checking, running, readSays, checkSays, inferSays, runSays}
+use Rattle.rules.specs.Calls.{formed, judged, cellCount, outOfFuel, endingOf, stateOf, Left, Ended as Report, Inferred, checking, running, readSays, checkSays, inferSays, runSays, runnable}
 use Rattle.laws.specs.Formed.{Fits, CommandFits}
 use Rattle.laws.specs.Graph.{Meets, Each, demands}
 
@@ -93,6 +93,18 @@ Safety = (s m lent : List ℕ) (fuel : ℕ) (at : Starts) → Bytes s → judged
 abbrev pub Surplus : Type 0
 Surplus = (s m lent : List ℕ) (fuel : ℕ) (at : Starts) → Bytes s → judged s m ≡ fine at
     → let n = cellCount (routine s at) in drop n (stateOf (run (routine s at) m lent fuel .answer) .memory) ≡ drop n lent
+
+-- What a call to run leaves. A refused one leaves the lent memory as it was; another leaves each cell valid for its home, and every entry
+-- past the homes' cells as it was.
+pub record Leaves (s m : List ℕ) (fuel : ℕ) (lent : List ℕ) : Type 0 where
+  pub refusal : (n p : ℕ) → running s m fuel lent .answer ≡ refused n p → running s m fuel lent .lent ≡ lent
+  pub valid : (at : Starts) → runnable s m lent ≡ fine at
+      → ValidState (routine s at) m (record { homes = routine s at .homes; memory = running s m fuel lent .lent })
+  pub outside : (at : Starts) → runnable s m lent ≡ fine at
+      → let n = cellCount (routine s at) in drop n (running s m fuel lent .lent) ≡ drop n lent
+
+abbrev pub Afterwards : Type 0
+Afterwards = (s m : List ℕ) (fuel : ℕ) (lent : List ℕ) → Bytes s → Leaves s m fuel lent
 
 -- ---- units
 

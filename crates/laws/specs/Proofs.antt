@@ -5,27 +5,27 @@ use Rattle.rules.specs.declared.Value.the-variants.{Number, Pair}
 use Rattle.rules.specs.declared.Starts.{Starts}
 use Rattle.rules.specs.Basic.{Verdict, fine, refused}
 use Rattle.rules.specs.Steps.{Step, entered, stored, Told, units}
-use Rattle.rules.specs.Table.{Routine, routine, total}
+use Rattle.rules.specs.Table.{Home, Routine, routine, total}
 use Rattle.rules.specs.Shape.{homeAt}
 use Rattle.rules.specs.Kinds.{Acceptable, int, SAFE, SEQ, DYNAMIC}
-use Rattle.rules.specs.Calls.{formed, judged, outOfFuel, endingOf, Left, Inferred, left, marked, inferable}
-use Rattle.rules.specs.Memory.{State, replay, encode}
+use Rattle.rules.specs.Calls.{formed, judged, cellCount, outOfFuel, endingOf, stateOf, Ended, Left, orLeave, Inferred, left, marked, inferable, runnable, running}
+use Rattle.rules.specs.Memory.{State, put, replay, encode}
 use Rattle.rules.specs.Ruled.{Check, check1, check2, check3, gives, fails}
 use Rattle.rules.specs.Values.{convert, reach}
 use Rattle.rules.specs.Run.{noFuel, failed, noRule, Ran, done, halted, startCells, start, run}
 use Rattle.rules.specs.Valid.{InHome, Laid, ValidState}
-use mathlib.Core.Path.{_≡_, refl, sym, _∙_}
+use mathlib.Core.Path.{_≡_, refl, sym, ap, _∙_}
 use mathlib.Core.Logic.{_⊎_, inl, inr}
 use Prim.Native.Nat.{ℕ, suc, _+_, _-_}
 use native.Mathlib.Omega.{arith}
-use mathlib.Core.List.{List, [], _∷_, _++_}
+use mathlib.Core.List.{List, [], _∷_, _++_, append-nil}
 use lib.ListN.{length, drop}
 use lib.Seq.{drop-set-lt, drop-append-seam}
 use lib.Dec.{leb, ltb}
 use borrow.Author.Tests.{ltb-true}
 use Rattle.rules.specs.Tests.{false-true, fine-same}
 use Rattle.rules.specs.Tested.{refused-fine, passed}
-use Rattle.laws.specs.Promises.{Bytes, Safety, Spending, Prefixes, Surplus, MadeOfNumber, Equal, AllDynamic, Exactly, Demanded, LeastMarking, LeastExists, OneInference, SomeInference, Within, Rows, leftAfter}
+use Rattle.laws.specs.Promises.{Bytes, Safety, Spending, Prefixes, Surplus, Afterwards, MadeOfNumber, Equal, AllDynamic, Exactly, Demanded, LeastMarking, LeastExists, OneInference, SomeInference, Within, Rows, leftAfter}
 use Rattle.laws.specs.Values.{null-address, valid-same}
 use Rattle.laws.specs.Steps.{Steps, still, enters, stores, steps-valid}
 use Rattle.laws.specs.Formed.{Formed, type-le}
@@ -106,6 +106,50 @@ surplus s m lent fuel at b j =
   where
     from-lent : (n : ℕ) (cells : List ℕ) → length cells ≡ n → drop n (cells ++ drop (length cells) lent) ≡ drop n lent
     from-lent n cells e = rw (← e) (drop-append-seam cells (drop (length cells) lent))
+
+-- ---- what a call leaves
+
+replay-homes : (w : State) (l : List Step) → replay w l .homes ≡ w .homes
+replay-homes w [] = refl
+replay-homes w (entered p ∷ l) = replay-homes w l
+replay-homes w (stored a v ∷ l) = replay-homes (put w a v) l
+
+-- A run that is not refused was judged.
+runnable-judged : (s m lent : List ℕ) (at : Starts) → runnable s m lent ≡ fine at → judged s m ≡ fine at
+unfolding runnable
+runnable-judged s m lent at e =
+    let (at′, (j, k)) = unrefused (judged s m) _ at e in
+    let q : at′ ≡ at = fine-same (passed (leb (cellCount (routine s at′)) (length lent)) _ 9 _ at k .1) in
+    rw (← q) j
+
+refusal-leaves : {X : Type 0} (v : Verdict Starts) (lent : List ℕ) (go : Starts → Left X) → ((at : Starts) (n p : ℕ) → go at .answer ≡ refused n p → ⊥)
+    → (n p : ℕ) → orLeave v lent go .answer ≡ refused n p → orLeave v lent go .lent ≡ lent
+refusal-leaves (fine at) lent go h n p e = absurd (h at n p e)
+refusal-leaves (refused k q) lent go h n p e = refl
+
+valid-left : {r : Routine} {m : List ℕ} {hs : List Home} (v w : State) → v ≡ w → w .homes ≡ hs → ValidState r m w → ValidState r m (record { homes = hs; memory = v .memory })
+valid-left v w e h ok = rw (e, ← h) ok
+
+pub afterwards : Afterwards
+unfolding running
+afterwards s m fuel lent b =
+    record {
+      refusal = refusal-leaves (runnable s m lent) lent _ (λ at n p e. never e);
+      valid = λ at e. rw e (whole at (runnable-judged s m lent at e));
+      outside = λ at e. rw e (surplus s m lent fuel at b (runnable-judged s m lent at e));
+    }
+  where
+    never : {x : Ended} {n p : ℕ} → _≡_ {A = Verdict Ended} (fine x) (refused n p) → ⊥
+    never h = let z : _≡_ {A = ℕ} 0 1 = cc in omega arith
+
+    whole : (at : Starts) → judged s m ≡ fine at
+        → ValidState (routine s at) m (record { homes = routine s at .homes; memory = stateOf (run (routine s at) m lent fuel .answer) .memory })
+    whole at j =
+        let w = start (routine s at) m lent in
+        let x = run (routine s at) m lent fuel in
+        let safe = safety s m lent fuel at b j in
+        let ok : ValidState (routine s at) m (replay w (x .steps)) = safe .valid (x .steps) [] (sym (append-nil (x .steps))) in
+        valid-left (stateOf (x .answer)) (replay w (x .steps)) (safe .last) (replay-homes w (x .steps)) ok
 
 -- ---- numbers made into pointers
 
