@@ -1,6 +1,7 @@
 //! The words after a subcommand: options with a value, and plain words.
 
 use std::collections::BTreeMap;
+use std::ops::RangeInclusive;
 use std::str::FromStr;
 
 pub struct Arguments {
@@ -9,13 +10,18 @@ pub struct Arguments {
 }
 
 impl Arguments {
-    /// Takes the words apart; only these options are known.
-    pub fn parse(words: impl Iterator<Item = String>, known: &[&str]) -> Result<Arguments, String> {
+    /// Takes the words apart; only these options are known, and so many plain
+    /// words are taken.
+    pub fn parse(
+        words: Vec<String>,
+        known: &[&str],
+        plain: RangeInclusive<usize>,
+    ) -> Result<Arguments, String> {
         let mut arguments = Arguments {
             options: BTreeMap::new(),
             plain: Vec::new(),
         };
-        let mut words = words;
+        let mut words = words.into_iter();
         while let Some(word) = words.next() {
             if !word.starts_with("--") {
                 arguments.plain.push(word);
@@ -26,7 +32,13 @@ impl Arguments {
                 return Err(format!("unknown option {word}"));
             }
         }
-        Ok(arguments)
+        if arguments.plain.len() < *plain.start() {
+            Err("a file name is missing".to_string())
+        } else if let Some(word) = arguments.plain.get(*plain.end()) {
+            Err(format!("`{word}` is one word too many"))
+        } else {
+            Ok(arguments)
+        }
     }
 
     pub fn text(&self, option: &str) -> Option<&str> {
@@ -43,14 +55,8 @@ impl Arguments {
             .transpose()
     }
 
-    /// The plain words, of which there may be so many.
-    pub fn plain(&self, least: usize, most: usize) -> Result<&[String], String> {
-        if self.plain.len() < least {
-            Err("a file name is missing".to_string())
-        } else if self.plain.len() > most {
-            Err(format!("`{}` is one word too many", self.plain[most]))
-        } else {
-            Ok(&self.plain)
-        }
+    /// The plain words.
+    pub fn plain(&self) -> &[String] {
+        &self.plain
     }
 }

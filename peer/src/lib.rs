@@ -24,9 +24,11 @@ pub mod rows;
 pub mod run;
 pub mod samples;
 pub mod selftest;
+pub mod show;
 pub mod text;
 pub mod validity;
 pub mod value;
+pub mod wording;
 
 pub use calls::{check_file, infer_file, run_file};
 pub use infer::infer;

@@ -6,10 +6,10 @@ use std::fmt::{self, Write};
 
 use crate::kind::{check, Kind, Marking};
 use crate::memory::Layout;
-use crate::refusal::Reason;
 use crate::routine::Routine;
-use crate::rows::{Cmd, Command, Expr, Expression, Operator, Section, Type};
+use crate::rows::{Command, Expr, Expression, Operator, Type};
 use crate::text::RowText;
+use crate::wording::{breach, count, remarked, SUBJECTS};
 
 /// One check at one row, and why it is made there or left out.
 struct Note {
@@ -28,9 +28,6 @@ const fn left_out(check: usize, why: &'static str) -> Note {
     Note { made, check, why }
 }
 
-/// What each check is about, by its number.
-const SUBJECTS: [&str; 5] = ["", "address 0", "bounds", "home 0", "zero divisor"];
-
 /// The checks of a read or store through a pointer of this kind.
 fn access(through: Kind) -> [Note; 3] {
     match through {
@@ -38,21 +35,21 @@ fn access(through: Kind) -> [Note; 3] {
             made(1, "a SAFE pointer may be null"),
             left_out(
                 2,
-                "no sum is on a SAFE pointer, and SEQ to SAFE is checked there",
+                "no sum is on a SAFE pointer, and a SEQ one is checked where it becomes SAFE",
             ),
             left_out(3, "no int and no DYNAMIC pointer converts to SAFE"),
         ],
         Kind::Seq => [
-            made(2, "a sum may have moved a SEQ pointer out of its home"),
-            made(1, "the null pair (0, 0) is within its bounds"),
+            made(2, "a SEQ pointer may have any offset, or be made of an int"),
+            made(1, "null, the pair (0, 0), is within the bounds of home 0"),
             left_out(
                 3,
-                "of home 0, check 2 lets only the null pair by, and check 1 stops it",
+                "of home 0, check 2 lets only null by, and check 1 stops it",
             ),
         ],
         Kind::Dynamic => [
             made(3, "a DYNAMIC pointer may be null, or made of an int"),
-            made(2, "a sum may have moved a DYNAMIC pointer out of its home"),
+            made(2, "a DYNAMIC pointer may have any offset"),
             left_out(
                 1,
                 "past check 3 the pointer has a home, and none has address 0",
@@ -144,10 +141,7 @@ impl Listing<'_> {
 
     /// A type with its kind.
     fn kinded(&self, t: Type) -> String {
-        match self.marking.kind(t) {
-            Some(kind) => format!("{t} {kind}"),
-            None => "int".to_string(),
-        }
+        remarked(self.marking, t)
     }
 
     fn types(&mut self) {
@@ -157,36 +151,48 @@ impl Listing<'_> {
             let remark = self.reason(t);
             self.row(t, RowText::Type(target), &remark);
         }
+        if let Some(reason) = self.dynamic_reason() {
+            self.line(format_args!("  {reason}"));
+        }
     }
 
-    /// The type's kind, and what is broken if it alone is marked lower.
-    fn reason(&self, t: Type) -> String {
-        let (kind, lower) = match self.marking.kind(t) {
-            Some(Kind::Dynamic) => (Kind::Dynamic, Kind::Seq),
-            Some(Kind::Seq) => (Kind::Seq, Kind::Safe),
-            _ => return Kind::Safe.to_string(),
-        };
+    /// Which row is broken if all DYNAMIC types are SEQ, for each of them may be
+    /// DYNAMIC because another is. None where none is.
+    fn dynamic_reason(&self) -> Option<String> {
         let mut lowered = self.marking.clone();
-        lowered.0[usize::from(t.0) - 1] = lower;
-        match check(self.routine, &lowered) {
-            Ok(()) => format!("{kind}, though {lower} would do"),
-            Err(refusal) => {
-                let row = self.row_name(refusal.place);
-                match refusal.reason {
-                    Reason::Kind(rule) => format!("{kind}, for as {lower}, at {row}, {rule}"),
-                    other => format!("{kind}, for as {lower}, {other}"),
-                }
-            }
+        for kind in &mut lowered.0 {
+            *kind = (*kind).min(Kind::Seq);
         }
+        if lowered == *self.marking {
+            return None;
+        }
+        let broken = match check(self.routine, &lowered) {
+            Ok(()) => "no rule would be broken".to_string(),
+            Err(refusal) => {
+                let breach = breach(self.routine, &lowered, &refusal, "would be");
+                format!("{breach} (place {})", refusal.place)
+            }
+        };
+        Some(format!("with SEQ for every DYNAMIC, {broken}"))
     }
 
-    fn row_name(&self, place: usize) -> String {
-        match self.routine.row_at(place) {
-            Some((Section::Types, index)) => Type(index as u16 + 1).to_string(),
-            Some((Section::Expressions, index)) => Expr(index as u16).to_string(),
-            Some((Section::Commands, index)) => Cmd(index as u16).to_string(),
-            _ => format!("byte {place}"),
+    /// The type's kind, and which row is broken if it alone is marked lower.
+    fn reason(&self, t: Type) -> String {
+        let kind = self.marking.kind(t).unwrap_or(Kind::Safe);
+        let mut reason = format!("{t} is {kind}");
+        for lower in Kind::ALL.into_iter().filter(|&lower| lower < kind) {
+            let mut lowered = self.marking.clone();
+            lowered.0[usize::from(t.0) - 1] = lower;
+            reason = match check(self.routine, &lowered) {
+                Ok(()) => return format!("{t} is {kind}, though {lower} would do"),
+                Err(refusal) => {
+                    let breach = breach(self.routine, &lowered, &refusal, "would be");
+                    let place = refusal.place;
+                    format!("{t} is {kind}: as {lower}, {breach} (place {place})")
+                }
+            };
         }
+        reason
     }
 
     fn homes(&mut self) {
@@ -194,10 +200,13 @@ impl Listing<'_> {
         self.line(format_args!("homes"));
         for (home, row) in self.routine.homes() {
             let start = layout.start(home);
+            let addresses = match layout.size(home) {
+                1 => format!("address {start}"),
+                size => format!("addresses {start} to {}", start + size - 1),
+            };
             let remark = format!(
-                "{}, addresses {start} to {}, cells of {}",
+                "{}, {addresses}, cells of {}",
                 self.kinded(row.of),
-                start + layout.size(home) - 1,
                 self.kinded(self.routine.element(row)),
             );
             self.row(home, RowText::Home(row), &remark);
@@ -215,7 +224,7 @@ impl Listing<'_> {
                     "sum",
                     left_out(
                         2,
-                        "it is not SAFE and keeps its home, for its accesses to check",
+                        "the pointer is not SAFE and keeps its home, for its accesses to check",
                     ),
                 ),
                 Expression::Read { pointer } => self.access("read", pointer),
@@ -258,9 +267,9 @@ impl Listing<'_> {
     fn summary(&mut self) {
         self.line(format_args!("checks"));
         for (check, subject) in SUBJECTS.iter().enumerate().skip(1) {
-            let (made, left_out) = (self.made[check], self.left_out[check]);
+            let (made, left_out) = (count(self.made[check], "place"), self.left_out[check]);
             self.line(format_args!(
-                "  check {check}, {subject}: made in {made} places, left out in {left_out}"
+                "  check {check}, {subject}: made in {made}, left out in {left_out}"
             ));
         }
     }

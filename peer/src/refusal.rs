@@ -3,6 +3,7 @@
 use std::fmt;
 
 use crate::rows::{Flaw, Section};
+use crate::wording::count;
 
 /// What is due at a place of the file.
 #[derive(Clone, Copy, Debug, PartialEq, Eq, Hash)]
@@ -93,18 +94,22 @@ impl Refusal {
             Reason::TooShort(_) => 9,
         }
     }
-}
 
-/// For people: number, place and words. Programs print number and place only.
-impl fmt::Display for Refusal {
-    fn fmt(&self, f: &mut fmt::Formatter<'_>) -> fmt::Result {
+    /// Number and place, for people. Programs print the two numbers only.
+    pub fn head(&self) -> String {
         let place = match self.reason {
             Reason::MarkingLength { .. } | Reason::MarkingByte(_) => "index",
             Reason::TooShort(_) => "length",
             _ => "byte",
         };
-        write!(f, "refused {} at {place} {}: ", self.number(), self.place)?;
-        self.reason.fmt(f)
+        format!("refused {} at {place} {}", self.number(), self.place)
+    }
+}
+
+/// For people: number, place and words.
+impl fmt::Display for Refusal {
+    fn fmt(&self, f: &mut fmt::Formatter<'_>) -> fmt::Result {
+        write!(f, "{}: {}", self.head(), self.reason)
     }
 }
 
@@ -138,7 +143,8 @@ impl fmt::Display for Reason {
                 f.write_str("an operand is int where a reference is needed")
             }
             Reason::MarkingLength { given, types } => {
-                write!(f, "a marking of {given} bytes for {types} types")
+                let (given, types) = (count(*given, "byte"), count(*types, "type"));
+                write!(f, "a marking of {given} for {types}")
             }
             Reason::MarkingByte(byte) => write!(f, "marking byte {byte} is no kind"),
             Reason::Kind(rule) => rule.fmt(f),

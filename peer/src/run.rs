@@ -66,11 +66,14 @@ impl fmt::Display for Answer {
     }
 }
 
-/// Is shown the memory at the start of a run and after every store.
+/// Is shown the memory at the start of a run and after every store, and the
+/// pointer that fails a check.
 pub trait Watch {
     fn started(&mut self, _cells: &[u64]) {}
     /// The cell at this index has just been stored to.
     fn stored(&mut self, _cells: &[u64], _index: usize) {}
+    /// The check that ends the run is on this value.
+    fn failed(&mut self, _value: Value) {}
 }
 
 /// Watches nothing.
@@ -170,6 +173,14 @@ impl<W: Watch> Machine<'_, W> {
         }
     }
 
+    /// Ends the run at the row whose own rule has halted on this value.
+    fn stop(&mut self, halt: Halt, value: Value, place: usize) -> Stop {
+        if matches!(halt.0, Outcome::Check(_)) {
+            self.watch.failed(value);
+        }
+        halt.at(place)
+    }
+
     fn evaluate(&mut self, e: Expr) -> Result<Value, Stop> {
         let place = self.routine.expression_place(e);
         self.enter(place)?;
@@ -178,7 +189,8 @@ impl<W: Watch> Machine<'_, W> {
             Expression::Home(home) => Ok(self.home_value(home)),
             Expression::Cast { value, to } => {
                 let value = self.evaluate(value)?;
-                self.convert(value, to).map_err(|halt| halt.at(place))
+                self.convert(value, to)
+                    .map_err(|halt| self.stop(halt, value, place))
             }
             Expression::Null(of) => Ok(match self.marking.kind(of) {
                 Some(Kind::Safe) | None => Value::Number(0),
@@ -197,7 +209,8 @@ impl<W: Watch> Machine<'_, W> {
             Expression::Read { pointer } => {
                 let address = self.evaluate(pointer)?;
                 let of = self.routine.type_of(pointer);
-                self.read(of, address).map_err(|halt| halt.at(place))
+                self.read(of, address)
+                    .map_err(|halt| self.stop(halt, address, place))
             }
             Expression::Operation(operator, a, b) => {
                 let a = self.evaluate(a)?;
@@ -224,9 +237,13 @@ impl<W: Watch> Machine<'_, W> {
             Command::Store { pointer, value } => {
                 let of = self.routine.type_of(pointer);
                 let target = self.evaluate(pointer)?;
-                let index = self.access(of, target).map_err(|halt| halt.at(place))?;
+                let index = self
+                    .access(of, target)
+                    .map_err(|halt| self.stop(halt, target, place))?;
                 let value = self.evaluate(value)?;
-                let stored = self.stored(of, value).map_err(|halt| halt.at(place))?;
+                let stored = self
+                    .stored(of, value)
+                    .map_err(|halt| self.stop(halt, value, place))?;
                 self.cells[index] = stored.to_entry();
                 self.watch.stored(self.cells, index);
                 Ok(())

@@ -14,10 +14,14 @@ use crate::reader::read;
 use crate::refusal::Refusal;
 use crate::report::Report;
 use crate::routine::Routine;
+use crate::rows::Home;
 use crate::run::{run, run_watched, Answer, Outcome};
 use crate::samples;
+use crate::show;
 use crate::text;
 use crate::validity::{Validity, ValidityWatch};
+use crate::value::Value;
+use crate::wording::accept;
 
 /// How many expectations held. Of those that did not, the first are kept.
 #[derive(Debug, Default)]
@@ -68,6 +72,7 @@ pub fn test(count: u64) -> Tally {
         match read(&file) {
             Ok(routine) => {
                 test_markings(&mut tally, index, &routine);
+                test_least_shown(&mut tally, index, &file, &routine);
                 test_runs(&mut tally, index, random, &file, &routine);
                 stuck += u64::from(test_any_marking(&mut tally, index, random, &routine));
             }
@@ -215,8 +220,97 @@ fn test_short_memory(tally: &mut Tally, index: u64, file: &[u8], marking: &Marki
     }
 }
 
+/// A run shown in words under no marking is one under the least.
+fn test_least_shown(tally: &mut Tally, index: u64, file: &[u8], routine: &Routine) {
+    let least = infer(routine).to_bytes();
+    tally.expect(
+        show::run(file, None, FUEL) == show::run(file, Some(&least), FUEL),
+        || format!("file {index}: its run in words is not under the least marking"),
+    );
+}
+
+/// What is told in words of a check or a run is the answer to the request.
+fn test_words(tally: &mut Tally, index: u64, request: &Request) {
+    match &request.call {
+        Call::Read | Call::Infer { .. } => {}
+        Call::Check { marking } => {
+            let told = match accept(&request.file, Some(marking)) {
+                Ok(_) => Some("accepted".to_string()),
+                Err(words) => refusal_told(&words),
+            };
+            tally.expect_equal(told, Some(request.answer()), || {
+                format!("request {index}, its check in words")
+            });
+        }
+        Call::Run { marking, fuel, .. } => {
+            // Just the cells are lent, as they are to a run in words.
+            let cells = read(&request.file).map_or(0, |routine| routine.cells());
+            let lent = Request {
+                file: request.file.clone(),
+                call: Call::Run {
+                    marking: marking.clone(),
+                    fuel: *fuel,
+                    memory: vec![0; cells],
+                },
+            };
+            let answer = lent.answer();
+            let told = match show::run(&request.file, Some(marking), *fuel) {
+                Ok(words) => run_told(&words),
+                Err(words) => {
+                    let entries = " 0".repeat(cells);
+                    refusal_told(&words).map(|refused| format!("{refused} :{entries}"))
+                }
+            };
+            tally.expect_equal(told, Some(answer), || {
+                format!("request {index}, its run in words")
+            });
+        }
+    }
+}
+
+/// `refused 8 22` from `refused 8 at byte 22: ...`.
+fn refusal_told(words: &str) -> Option<String> {
+    let mut words = words.split([' ', ':']);
+    let (refused, number) = (words.next()?, words.next()?);
+    let place = words.nth(2)?;
+    Some(format!("{refused} {number} {place}"))
+}
+
+/// The first line, and the entries of all cells, from a run in words. None if
+/// it does not show the row that it ended at, and why a check failed there.
+fn run_told(words: &str) -> Option<String> {
+    let first = words.lines().next()?;
+    let shown = match first.split(['-', ' ']).next()? {
+        "check" => 2,
+        "fuel" => 1,
+        _ => 0,
+    };
+    let ending = words.lines().skip(2);
+    if ending.take_while(|line| line.starts_with("  ")).count() != shown {
+        return None;
+    }
+    let mut told = format!("{first} :");
+    let cells = words
+        .lines()
+        .filter_map(|line| line.strip_prefix("  cell "));
+    for cell in cells {
+        let (_, value) = cell.split_once(" = ")?;
+        let value = match value.strip_prefix("pair (") {
+            Some(pair) => {
+                let (home, rest) = pair.split_once(", ")?;
+                let (offset, _) = rest.split_once(')')?;
+                Value::Pair(Home(home.parse().ok()?), offset.parse().ok()?)
+            }
+            None => Value::Number(value.split(',').next()?.parse().ok()?),
+        };
+        told += &format!(" {}", value.to_entry());
+    }
+    Some(told)
+}
+
 /// Requests of every sort: what a refused call leaves alone, what is written
-/// comes back, and the report has a line for all that is reached.
+/// comes back, what is told in words is the answer, and the report has a line
+/// for all that is reached.
 fn test_requests(tally: &mut Tally, count: u64) {
     let generator = Generator::new(SEED);
     let mut report = Report::new();
@@ -226,6 +320,7 @@ fn test_requests(tally: &mut Tally, count: u64) {
         report.count(&request);
         test_protocol(tally, index, &request);
         test_refused(tally, index, &request);
+        test_words(tally, index, &request);
         test_text(tally, &format!("request {index}"), &request.file);
         if let Ok(routine) = read(&request.file) {
             let again = Builder::from(&routine).file();

@@ -22,4 +22,4 @@ mod parse;
 mod print;
 
 pub use parse::{parse, TextError};
-pub use print::{print, RowText};
+pub use print::{print, row_at, RowText};

@@ -52,33 +52,56 @@ const PLACE_COLUMN: usize = 44;
 /// The text of a file. Of a file that is refused it shows the rows that are
 /// whole, and the rest as bytes.
 pub fn print(file: &[u8]) -> String {
-    let mut page = Page {
-        text: String::new(),
-        place: 0,
+    let mut text = match read(file) {
+        Ok(_) => format!("# a well-formed routine of {} bytes\n", file.len()),
+        Err(refusal) => format!("# {refusal}\n"),
     };
-    let _ = match read(file) {
-        Ok(_) => writeln!(page.text, "# a well-formed routine of {} bytes", file.len()),
-        Err(refusal) => writeln!(page.text, "# {refusal}"),
-    };
-    for section in Section::ALL {
-        if !page.section(section, &file[page.place..]) {
-            break;
-        }
+    for Line { line, place } in Page::of(file).lines {
+        let _ = writeln!(text, "{line:PLACE_COLUMN$} # {place}");
     }
-    page.bytes(&file[page.place..]);
-    page.text
+    text
+}
+
+/// The text of the whole row that begins at this place, with its name.
+pub fn row_at(file: &[u8], place: usize) -> Option<String> {
+    let lines = Page::of(file).lines;
+    let line = lines.into_iter().find(|line| line.place == place)?;
+    line.line.strip_prefix(ROW_INDENT).map(str::to_string)
+}
+
+/// What rows begin with, and no other line.
+const ROW_INDENT: &str = "  ";
+
+struct Line {
+    line: String,
+    place: usize,
 }
 
 struct Page {
-    text: String,
+    lines: Vec<Line>,
     /// The place of the first byte that is not yet on the page.
     place: usize,
 }
 
 impl Page {
+    fn of(file: &[u8]) -> Page {
+        let mut page = Page {
+            lines: Vec::new(),
+            place: 0,
+        };
+        for section in Section::ALL {
+            if !page.section(section, &file[page.place..]) {
+                break;
+            }
+        }
+        page.bytes(&file[page.place..]);
+        page
+    }
+
     /// A line for so many bytes.
-    fn line(&mut self, line: &str, bytes: usize) {
-        let _ = writeln!(self.text, "{line:PLACE_COLUMN$} # {}", self.place);
+    fn line(&mut self, line: String, bytes: usize) {
+        let place = self.place;
+        self.lines.push(Line { line, place });
         self.place += bytes;
     }
 
@@ -96,12 +119,12 @@ impl Page {
         let rows = whole.min(usize::from(count));
         let complete = rows == usize::from(count);
         if complete {
-            self.line(section.name(), 2);
+            self.line(section.name().to_string(), 2);
         } else {
-            self.line(&format!("{} {count}", section.name()), 2);
+            self.line(format!("{} {count}", section.name()), 2);
         }
         for (index, row) in rest.chunks(section.row_bytes()).take(rows).enumerate() {
-            self.line(&row_line(section, index, row), row.len());
+            self.line(row_line(section, index, row), row.len());
         }
         complete
     }
@@ -112,7 +135,7 @@ impl Page {
             for byte in bytes {
                 let _ = write!(line, " {byte:02x}");
             }
-            self.line(&line, bytes.len());
+            self.line(line, bytes.len());
         }
     }
 }
@@ -123,7 +146,7 @@ fn row_line(section: Section, index: usize, row: &[u8]) -> String {
         Section::Types | Section::Homes => index + 1,
         Section::Expressions | Section::Commands => index,
     };
-    let mut line = format!("  {letter}{number} = ");
+    let mut line = format!("{ROW_INDENT}{letter}{number} = ");
     let _ = match decode(section, row) {
         Some(text) => write!(line, "{text}"),
         None => write!(line, "{}", raw(row)),
