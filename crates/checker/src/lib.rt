@@ -23,7 +23,7 @@ ghost use Rattle.checker.specs.Tables.{kindBy, TwoTypes, OneType, AllTyp
 ghost use Rattle.checker.specs.First.{FirstBad};
 
 // Whether types t and u are equal. Their targets are compared by this function again: targets fall.
-pub fn same(targets: &[u8; 256], kinds: &[u8; 256], t: u8, u: u8) -> bool
+fn same(targets: &[u8; 256], kinds: &[u8; 256], t: u8, u: u8) -> bool
     requires { ⌜ TwoTypes (now targets) (now kinds) t u ⌝ }
     ensures { λ x. ⌜ ((g : TwoTypes (now (targets .entry)) (now (kinds .entry)) t u) → x ≡ Rattle.rules.specs.Kinds.same (g .routine) (g .marking) t u) ⌝ }
 {
@@ -256,7 +256,7 @@ fn bad_command(
 }
 
 // The targets of a file's n types, each at its type's number.
-pub fn fill_targets(file: &[u8], at: Starts, n: usize, targets: &mut [u8; 256])
+fn fill_targets(file: &[u8], at: Starts, n: usize, targets: &mut [u8; 256])
     requires { ⌜ WellRead (now file) at × (n ≡ half (now file) (at .types)) × (length (now targets) ≡ 256) ⌝ }
     ensures { λ _. ⌜ Targets (routine (now (file .entry)) at) n (now (targets .exit)) × (length (now (targets .exit)) ≡ 256) ⌝ }
 {
@@ -269,7 +269,7 @@ pub fn fill_targets(file: &[u8], at: Starts, n: usize, targets: &mut [u8; 256])
 }
 
 // The kinds of a marking's types, each at its type's number.
-pub fn fill_kinds(marking: &[u8], kinds: &mut [u8; 256])
+fn fill_kinds(marking: &[u8], kinds: &mut [u8; 256])
     requires { ⌜ Marked (now marking) × (length (now kinds) ≡ 256) × (getD (now kinds) 0 0 ≡ 0) ⌝ }
     ensures { λ _. ⌜ KindsOf (now (marking .entry)) (length (now (marking .entry))) (now (kinds .exit)) ⌝ }
 {
@@ -346,7 +346,7 @@ fn judge_rows(
 }
 
 // Refusals 7 and 8 of a well-formed file.
-pub fn judge(file: &[u8], at: Starts, types: &[u16; 1024], marking: &[u8]) -> ReadAnswer
+fn judge(file: &[u8], at: Starts, types: &[u16; 1024], marking: &[u8]) -> ReadAnswer
     requires { ⌜ TypedFile (now file) at (now types) ⌝ }
     ensures { λ r. ⌜ readSays r ≡ kinds (routine (now (file .entry)) at) (now (marking .entry)) (λ _. fine at) ⌝ }
 {
