@@ -88,18 +88,30 @@ pub fn answer_read(file: &mut [u8], out: &mut [u8], at: usize) -> Answered {
     line(sized(k), out, end)
 }
 
-// `C`: a marking is checked.
-pub fn answer_check(file: &mut [u8], marking: &mut [u8], out: &mut [u8], at: usize) -> Answered {
+// The lengths of a file and a marking that were read; or they are cut.
+enum Two {
+    Are(usize, usize),
+    Cut,
+}
+
+fn read_two(file: &mut [u8], marking: &mut [u8]) -> Two {
     let first = read_part(file);
     let Number::Is(n) = first else {
-        return Answered::Bad;
+        return Two::Cut;
     };
     let second = read_part(marking);
     let Number::Is(m) = second else {
+        return Two::Cut;
+    };
+    Two::Are(n as usize, m as usize)
+}
+
+// `C`: a marking is checked.
+pub fn answer_check(file: &mut [u8], marking: &mut [u8], out: &mut [u8], at: usize) -> Answered {
+    let parts = read_two(file, marking);
+    let Two::Are(k, j) = parts else {
         return Answered::Bad;
     };
-    let k = n as usize;
-    let j = m as usize;
     if file.len() < k {
         return Answered::Bad;
     }
@@ -113,16 +125,10 @@ pub fn answer_check(file: &mut [u8], marking: &mut [u8], out: &mut [u8], at: usi
 
 // `I`: a file's marking is inferred into a lent one.
 pub fn answer_infer(file: &mut [u8], marking: &mut [u8], out: &mut [u8], at: usize) -> Answered {
-    let first = read_part(file);
-    let Number::Is(n) = first else {
+    let parts = read_two(file, marking);
+    let Two::Are(k, j) = parts else {
         return Answered::Bad;
     };
-    let second = read_part(marking);
-    let Number::Is(m) = second else {
-        return Answered::Bad;
-    };
-    let k = n as usize;
-    let j = m as usize;
     if file.len() < k {
         return Answered::Bad;
     }
@@ -149,26 +155,22 @@ fn put_run(
     put_memory(out, said, memory)
 }
 
-// The parts of an `X` behind its file: the marking's length, the fuel and the number of entries; or they are cut.
-enum Parts {
-    Are(usize, u32, usize),
+// The fuel and the number of entries of an `X`; or they are cut.
+enum Rest {
+    Is(u32, usize),
     Cut,
 }
 
-fn read_rest(marking: &mut [u8], memory: &mut [u64]) -> Parts {
-    let second = read_part(marking);
-    let Number::Is(m) = second else {
-        return Parts::Cut;
-    };
+fn read_rest(memory: &mut [u64]) -> Rest {
     let third = crate::input::word();
     let Number::Is(fuel) = third else {
-        return Parts::Cut;
+        return Rest::Cut;
     };
     let fourth = read_memory(memory);
     let Number::Is(e) = fourth else {
-        return Parts::Cut;
+        return Rest::Cut;
     };
-    Parts::Are(m as usize, (fuel % 4294967296) as u32, e as usize)
+    Rest::Is((fuel % 4294967296) as u32, e as usize)
 }
 
 // `X`: a file is run under a marking.
@@ -179,15 +181,14 @@ pub fn answer_run(
     out: &mut [u8],
     at: usize,
 ) -> Answered {
-    let first = read_part(file);
-    let Number::Is(n) = first else {
+    let parts = read_two(file, marking);
+    let Two::Are(k, j) = parts else {
         return Answered::Bad;
     };
-    let rest = read_rest(marking, memory);
-    let Parts::Are(j, fuel, i) = rest else {
+    let rest = read_rest(memory);
+    let Rest::Is(fuel, i) = rest else {
         return Answered::Bad;
     };
-    let k = n as usize;
     if file.len() < k {
         return Answered::Bad;
     }

@@ -10,166 +10,141 @@ use Rattle.infer.proofs.infer.Reads as infer-reads
 use Rattle.probe.proofs.answers.put_inferred.Reads as put-inferred-reads
 use Rattle.probe.proofs.answers.put_marking.Reads as put-marking-reads
 use Rattle.probe.proofs.requests.line.Reads as line-reads
-use Rattle.probe.proofs.requests.read_part.Reads as read-part-reads
+use Rattle.probe.proofs.requests.read_two.Reads as read-two-reads
 use Rattle.probe.proofs.requests.sized.Reads as sized-reads
 
--- src/requests.rt:116:9
-read-part-requires : tie.Need-read-part-requires
-read-part-requires c κs = search needs
+-- src/requests.rt:128:9
+read-two-requires : tie.Need-read-two-requires
+read-two-requires c κs = search needs
 
--- src/requests.rt:117:20
-enum-known-first : tie.Need-enum-known-first
-enum-known-first c = search needs
+-- src/requests.rt:129:18
+enum-known-parts : tie.Need-enum-known-parts
+enum-known-parts c = search needs
 
--- src/requests.rt:118:9
+-- src/requests.rt:130:9
 enum-told : tie.Need-enum-told
 enum-told c = search needs
 
--- src/requests.rt:118:9
+-- src/requests.rt:130:9
 same-length : tie.Need-same-length
 same-length c = search needs
 
--- src/requests.rt:118:9
-returns : tie.Need-returns
-returns c = search needs
-
--- src/requests.rt:120:9
-read-part-requires-2 : tie.Need-read-part-requires-2
-read-part-requires-2 c κs = search needs
-
--- src/requests.rt:121:20
-enum-known-second : tie.Need-enum-known-second
-enum-known-second c = search needs
-
--- src/requests.rt:122:9
-enum-told-2 : tie.Need-enum-told-2
-enum-told-2 c = search needs
-
--- src/requests.rt:122:9
+-- src/requests.rt:130:9
 same-length-2 : tie.Need-same-length-2
 same-length-2 c = search needs
 
--- src/requests.rt:122:9
+-- src/requests.rt:130:9
+returns : tie.Need-returns
+returns c = search needs
+
+-- src/requests.rt:133:9
 same-length-3 : tie.Need-same-length-3
 same-length-3 c = search needs
 
--- src/requests.rt:122:9
-returns-2 : tie.Need-returns-2
-returns-2 c = search needs
-
--- src/requests.rt:127:9
+-- src/requests.rt:133:9
 same-length-4 : tie.Need-same-length-4
 same-length-4 c = search needs
 
--- src/requests.rt:127:9
+-- src/requests.rt:133:9
+returns-2 : tie.Need-returns-2
+returns-2 c = search needs
+
+-- src/requests.rt:136:9
 same-length-5 : tie.Need-same-length-5
 same-length-5 c = search needs
 
--- src/requests.rt:127:9
-returns-3 : tie.Need-returns-3
-returns-3 c = search needs
-
--- src/requests.rt:130:9
+-- src/requests.rt:136:9
 same-length-6 : tie.Need-same-length-6
 same-length-6 c = search needs
 
--- src/requests.rt:130:9
-same-length-7 : tie.Need-same-length-7
-same-length-7 c = search needs
+-- src/requests.rt:136:9
+returns-3 : tie.Need-returns-3
+returns-3 c = search needs
 
--- src/requests.rt:130:9
-returns-4 : tie.Need-returns-4
-returns-4 c = search needs
-
--- src/requests.rt:132:31
+-- src/requests.rt:138:31
 slice-reshare-prefix-infer : tie.Need-slice-reshare-prefix-infer
 slice-reshare-prefix-infer c = search needs
 
--- src/requests.rt:132:31
+-- src/requests.rt:138:31
 slice-aggregate-infer : tie.Need-slice-aggregate-infer
 slice-aggregate-infer c = simp length-take (omega arith)
 
--- src/requests.rt:132:43
+-- src/requests.rt:138:43
 slice-relend-prefix-infer : tie.Need-slice-relend-prefix-infer
 slice-relend-prefix-infer c = search needs
 
--- src/requests.rt:132:43
+-- src/requests.rt:138:43
 slice-aggregate-infer-2 : tie.Need-slice-aggregate-infer-2
 slice-aggregate-infer-2 c = simp length-take (omega arith)
 
--- src/requests.rt:132:9
+-- src/requests.rt:138:9
 infer-requires : tie.Need-infer-requires
 infer-requires c κs = search needs
 
--- src/requests.rt:133:9
+-- src/requests.rt:139:9
 put-inferred-requires : tie.Need-put-inferred-requires
 put-inferred-requires c κs = search needs
 
--- src/requests.rt:134:38
+-- src/requests.rt:140:38
 slice-reshare-prefix-put-marking : tie.Need-slice-reshare-prefix-put-marking
 slice-reshare-prefix-put-marking c = search needs
 
--- src/requests.rt:134:38
+-- src/requests.rt:140:38
 slice-aggregate-put-marking : tie.Need-slice-aggregate-put-marking
 slice-aggregate-put-marking c = simp length-take (omega arith)
 
--- src/requests.rt:134:9
+-- src/requests.rt:140:9
 put-marking-requires : tie.Need-put-marking-requires
 put-marking-requires c κs = search needs
 
--- src/requests.rt:135:10
+-- src/requests.rt:141:10
 sized-requires : tie.Need-sized-requires
 sized-requires c κs = search needs
 
--- src/requests.rt:135:21
+-- src/requests.rt:141:21
 sized-requires-2 : tie.Need-sized-requires-2
 sized-requires-2 c κs = search needs
 
--- src/requests.rt:135:10
+-- src/requests.rt:141:10
 add-line : tie.Need-add-line
 add-line c = search needs
 
--- src/requests.rt:135:5
+-- src/requests.rt:141:5
 line-requires : tie.Need-line-requires
 line-requires c κs = search needs
 
--- src/requests.rt:115:1
+-- src/requests.rt:127:1
+same-length-7 : tie.Need-same-length-7
+same-length-7 c = search needs
+
+-- src/requests.rt:127:1
 same-length-8 : tie.Need-same-length-8
 same-length-8 c = search needs
 
--- src/requests.rt:115:1
+-- src/requests.rt:127:1
 same-length-9 : tie.Need-same-length-9
 same-length-9 c = search needs
 
--- src/requests.rt:115:1
-same-length-10 : tie.Need-same-length-10
-same-length-10 c = search needs
-
--- src/requests.rt:115:1
-returns-5 : tie.Need-returns-5
-returns-5 c = search needs
+-- src/requests.rt:127:1
+returns-4 : tie.Need-returns-4
+returns-4 c = search needs
 
 pub answer-infer-spec : {M : Type 1} → statement M
 answer-infer-spec =
     tie.close
     (tie.spec
-    read-part-requires
-    enum-known-first
+    read-two-requires
+    enum-known-parts
     enum-told
     same-length
-    returns
-    read-part-requires-2
-    enum-known-second
-    enum-told-2
     same-length-2
+    returns
     same-length-3
-    returns-2
     same-length-4
+    returns-2
     same-length-5
-    returns-3
     same-length-6
-    same-length-7
-    returns-4
+    returns-3
     slice-reshare-prefix-infer
     slice-aggregate-infer
     slice-relend-prefix-infer
@@ -183,7 +158,7 @@ answer-infer-spec =
     sized-requires-2
     add-line
     line-requires
+    same-length-7
     same-length-8
     same-length-9
-    same-length-10
-    returns-5)
+    returns-4)
