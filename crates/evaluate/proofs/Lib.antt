@@ -1,3 +1,4 @@
+-- The laws that the proofs cite.
 pub mod Answers
 pub mod Rules
 pub mod Rows

@@ -142,7 +142,7 @@ fn compound(t: &[u64; 2113], memory: &[u64], row: u32, w: u64, left: u32) -> Ans
     ensures { λ x. ⌜ ((g : Asked (now (t .entry)) (now (memory .entry)) row) → told (g .table .routine) x ≡ entered g left) ⌝ }
 {
     let op = op_of(w);
-    let first = eval(t, memory, a_of(w), left);
+    let first = operand(t, memory, a_of(w), left);
     let Answer::Done(x) = first else {
         return on(first);
     };
@@ -150,14 +150,31 @@ fn compound(t: &[u64; 2113], memory: &[u64], row: u32, w: u64, left: u32) -> Ans
         return one(t, memory, op, row, x);
     }
     let v = x.value;
-    let second = eval(t, memory, high(w), x.left);
+    let second = operand(t, memory, high(w), x.left);
     let Answer::Done(y) = second else {
         return on(second);
     };
     two(op, row, v, y)
 }
 
-// The row's value with the fuel left, or what stopped it.
+// An operand. A leaf is answered where it is asked for: that keeps it in registers.
+fn operand(t: &[u64; 2113], memory: &[u64], row: u32, fuel: u32) -> Answer
+    requires { ⌜ Asked (now t) (now memory) row ⌝ }
+    ensures { λ x. ⌜ ((g : Asked (now (t .entry)) (now (memory .entry)) row) → told (g .table .routine) x ≡ meant g fuel) ⌝ }
+{
+    if fuel == 0 {
+        return Answer::Stopped(Stop::Fuel(row));
+    }
+    let left = fuel - 1;
+    let w = t[row as usize];
+    if op_of(w) < 2 {
+        return leaf(w, left);
+    }
+    let x = compound(t, memory, row, w, left);
+    on(x)
+}
+
+// The row's value with the fuel left, or what stopped it. The same for callers outside, so that `compound` has two and stays a function of its own.
 pub fn eval(t: &[u64; 2113], memory: &[u64], row: u32, fuel: u32) -> Answer
     requires { ⌜ Asked (now t) (now memory) row ⌝ }
     ensures { λ x. ⌜ ((g : Asked (now (t .entry)) (now (memory .entry)) row) → told (g .table .routine) x ≡ meant g fuel) ⌝ }

@@ -1,3 +1,4 @@
+-- The laws that the proofs cite.
 pub mod Parts
 pub mod Cells
 pub mod Places
