@@ -12,11 +12,11 @@ use Rattle.rules.specs.Table.{Expr, Command, Routine, literal, home, cast, null
 use Rattle.rules.specs.Shape.{typeOf}
 use Rattle.rules.specs.Kinds.{int, kindOf, kind, sameKind, deep, same, sameBelow, converts, spreads, notSafe, exprKind, commandKind, Acceptable}
 use Rattle.rules.specs.Least.{Least}
-use Rattle.rules.specs.Tests.{false-true}
 use Rattle.laws.specs.Convert.{Conv, conv-of, of-conv, Spread, byteOf, any-to-int, int-from}
 use Rattle.laws.specs.Values.{target-le}
 use Rattle.laws.specs.Formed.{Formed}
 use Rattle.laws.specs.Dynamic.{all-acceptable}
+use Rattle.laws.specs.Least.{spreads-two, two-spreads, spreads-int}
 use Rattle.raise.specs.Marks.{at, Below, kept}
 use Rattle.raise.specs.Demands.{Ref}
 use Rattle.links.specs.Plain.{plain}
@@ -24,25 +24,6 @@ use Rattle.gather.specs.Gathered.{Listed, ExprListed, CommandListed, Targets, G
 use Rattle.infer.specs.Tables.{Suits, LeastAbove, past}
 
 -- ---- rules on bytes
-
-spreads-two : (a b : ℕ) → spreads (kindOf a) (kindOf b) ≡ true → 2 ≤ a → 2 ≤ b
-spreads-two zero b h i = absurd (omega arith)
-spreads-two (suc zero) b h i = absurd (omega arith)
-spreads-two (suc (suc a)) zero h i = false-true h
-spreads-two (suc (suc a)) (suc zero) h i = false-true h
-spreads-two (suc (suc a)) (suc (suc b)) h i = omega arith
-
-two-spreads : (a b : ℕ) → (2 ≤ a → 2 ≤ b) → spreads (kindOf a) (kindOf b) ≡ true
-two-spreads zero b h = refl
-two-spreads (suc zero) b h = refl
-two-spreads (suc (suc a)) zero h = absurd (omega (arith, h (omega arith)))
-two-spreads (suc (suc a)) (suc zero) h = absurd (omega (arith, h (omega arith)))
-two-spreads (suc (suc a)) (suc (suc b)) h = refl
-
-spreads-int : (a : ℕ) → spreads (kindOf a) int ≡ true
-spreads-int zero = refl
-spreads-int (suc zero) = refl
-spreads-int (suc (suc a)) = refl
 
 seed-safe : (k : ℕ) → 1 ≤ k → notSafe (kindOf k) ≡ true
 seed-safe zero h = absurd (not-suc-le-zero h)

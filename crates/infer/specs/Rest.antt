@@ -3,7 +3,7 @@
 -- as many levels as there are types are all of it.
 use mathlib.Core.Path.{_≡_, refl, _∙_}
 use mathlib.Core.Bool.{Bool, true, _&&_}
-use Prim.Native.Nat.{ℕ, zero, suc, _≤_, _<_, suc-le-suc, zero-le}
+use Prim.Native.Nat.{ℕ, zero, suc, _≤_, _<_}
 use native.Mathlib.Nat.{not-suc-le-zero}
 use native.Mathlib.Decide.{decLt}
 use native.Mathlib.Omega.{arith}
@@ -12,6 +12,7 @@ use lib.ListN.{length, getD}
 use Rattle.rules.specs.Basic.{choose}
 use Rattle.rules.specs.Kinds.{kindOf, kind, sameKind, deep, same, sameBelow}
 use Rattle.rules.specs.Tests.{false-true, parts-true, both-true, by-test}
+use Rattle.laws.specs.Demands.{kinds-equal}
 use Rattle.laws.specs.Convert.{Conv, Spread, byteOf}
 use Rattle.laws.specs.Same.{sameKind-refl, sameKind-eq}
 use Rattle.raise.specs.Marks.{at, Below, below-trans}
@@ -38,20 +39,11 @@ deep-byte : (m : List ℕ) (t : ℕ) → deep (kind m t) ≡ true → byteOf m t
 deep-byte m zero h = omega arith
 deep-byte m (suc t) h = deep-low (getD m t 0) h
 
-bytes-kind : (a b : ℕ) → (1 ≤ a → 1 ≤ b) → (1 ≤ b → 1 ≤ a) → (2 ≤ a → 2 ≤ b) → (2 ≤ b → 2 ≤ a) → kindOf a ≡ kindOf b
-bytes-kind zero zero f g h i = refl
-bytes-kind zero (suc b) f g h i = absurd (omega (arith, g (suc-le-suc zero-le)))
-bytes-kind (suc a) zero f g h i = absurd (omega (arith, f (suc-le-suc zero-le)))
-bytes-kind (suc zero) (suc zero) f g h i = refl
-bytes-kind (suc zero) (suc (suc b)) f g h i = absurd (omega (arith, i (omega arith)))
-bytes-kind (suc (suc a)) (suc zero) f g h i = absurd (omega (arith, h (omega arith)))
-bytes-kind (suc (suc a)) (suc (suc b)) f g h i = refl
-
 level-kind : {m : List ℕ} (s t : ℕ) → 1 ≤ s → 1 ≤ t → Level m s t → kind m s ≡ kind m t
 level-kind zero t a b l = absurd (not-suc-le-zero a)
 level-kind (suc s) zero a b l = absurd (not-suc-le-zero b)
 level-kind {m} (suc s) (suc t) a b l =
-    bytes-kind (getD m s 0) (getD m t 0) (l .up .one .goes b) (l .back .one .goes a) (l .up .two .goes b) (l .back .two .goes a)
+    kinds-equal (getD m s 0) (getD m t 0) (l .up .one .goes b) (l .back .one .goes a) (l .up .two .goes b) (l .back .two .goes a)
 
 module _ (T m : List ℕ) where
   alike-refl : (d t : ℕ) → alike T m d t t ≡ true

@@ -34,7 +34,7 @@ Alike zero (suc b) = ⊥
 Alike (suc a) zero = ⊥
 Alike (suc a) (suc b) = Unit {0}
 
-kinds-equal : (k l : ℕ) → (1 ≤ k → 1 ≤ l) → (1 ≤ l → 1 ≤ k) → (2 ≤ k → 2 ≤ l) → (2 ≤ l → 2 ≤ k) → kindOf k ≡ kindOf l
+pub kinds-equal : (k l : ℕ) → (1 ≤ k → 1 ≤ l) → (1 ≤ l → 1 ≤ k) → (2 ≤ k → 2 ≤ l) → (2 ≤ l → 2 ≤ k) → kindOf k ≡ kindOf l
 kinds-equal zero zero a b c d = refl
 kinds-equal zero (suc l) a b c d = absurd (omega (arith, b (suc-le-suc zero-le)))
 kinds-equal (suc k) zero a b c d = absurd (omega (arith, a (suc-le-suc zero-le)))

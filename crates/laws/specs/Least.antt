@@ -67,21 +67,21 @@ each-rows P r h =
 
 -- ---- a type row
 
-spreads-two : (a b : ℕ) → spreads (kindOf a) (kindOf b) ≡ true → 2 ≤ a → 2 ≤ b
+pub spreads-two : (a b : ℕ) → spreads (kindOf a) (kindOf b) ≡ true → 2 ≤ a → 2 ≤ b
 spreads-two zero b h i = absurd (omega arith)
 spreads-two (suc zero) b h i = absurd (omega arith)
 spreads-two (suc (suc a)) zero h i = false-true h
 spreads-two (suc (suc a)) (suc zero) h i = false-true h
 spreads-two (suc (suc a)) (suc (suc b)) h i = omega arith
 
-two-spreads : (a b : ℕ) → (2 ≤ a → 2 ≤ b) → spreads (kindOf a) (kindOf b) ≡ true
+pub two-spreads : (a b : ℕ) → (2 ≤ a → 2 ≤ b) → spreads (kindOf a) (kindOf b) ≡ true
 two-spreads zero b h = refl
 two-spreads (suc zero) b h = refl
 two-spreads (suc (suc a)) zero h = absurd (omega (arith, h (omega arith)))
 two-spreads (suc (suc a)) (suc zero) h = absurd (omega (arith, h (omega arith)))
 two-spreads (suc (suc a)) (suc (suc b)) h = refl
 
-spreads-int : (a : ℕ) → spreads (kindOf a) int ≡ true
+pub spreads-int : (a : ℕ) → spreads (kindOf a) int ≡ true
 spreads-int zero = refl
 spreads-int (suc zero) = refl
 spreads-int (suc (suc a)) = refl
