@@ -13,7 +13,8 @@ use Rattle.rules.specs.Kinds.{typeKind, exprKind, commandKind, kinds}
 use Rattle.laws.specs.WellRead.{WellRead}
 use Rattle.checker.specs.First.{FirstBad, first-stops, none-fails}
 use Rattle.checker.specs.Tables.{AllTypes, Marked, KindsOf}
-use Rattle.checker.specs.Judge.{TypedFile, MarkedFile, Rows, Targets, breaking}
+use Rattle.targets.specs.Filled.{TargetTable}
+use Rattle.checker.specs.Judge.{TypedFile, MarkedFile, Rows, breaking}
 
 -- The sections start low.
 pub starts-low : {s : List ℕ} {at : Starts} → WellRead s at → (at .types ≤ 30000) × (at .exprs ≤ 30000) × (at .commands ≤ 30000)
@@ -103,7 +104,7 @@ module _ {s : List ℕ} {at : Starts} {Y : List ℕ} (m : List ℕ) (f : TypedFi
       pub marked-bytes : Marked m
       marked-bytes = record { few = omega (arith, f .file .types .few); bytes = λ i u. leb-true (getD m i 0) 2 (g .before i (omega arith)) }
 
-      pub marked-file : {T K : List ℕ} → Targets (routine s at) n T → KindsOf m (length m) K → MarkedFile s at Y T K
+      pub marked-file : {T₀ T K : List ℕ} → TargetTable (routine s at) n T₀ T → KindsOf m (length m) K → MarkedFile s at Y T K
       marked-file ts ks =
           record {
             known = f;
@@ -118,7 +119,7 @@ module _ {s : List ℕ} {at : Starts} {Y : List ℕ} (m : List ℕ) (f : TypedFi
                 };
           }
 
-      pub rows-decide : {T K : List ℕ} {v : Verdict Starts} → Targets (routine s at) n T → KindsOf m (length m) K
+      pub rows-decide : {T₀ T K : List ℕ} {v : Verdict Starts} → TargetTable (routine s at) n T₀ T → KindsOf m (length m) K
           → ((g : MarkedFile s at Y T K) → v ≡ breaking (routine s at) (g .marking) at) → v ≡ kinds (routine s at) m (λ _. fine at)
       unfolding marked-file
       rows-decide ts ks h = h (marked-file ts ks) ∙ bytes-pass

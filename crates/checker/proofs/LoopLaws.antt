@@ -1,26 +1,21 @@
 -- The loops over a file's rows and over a marking: what one turn adds.
 use mathlib.Core.Path.{_≡_, refl, sym, ap, _∙_}
 use mathlib.Core.Bool.{Bool}
-use Prim.Native.Nat.{ℕ, zero, suc, _+_, _*_, _≤_, _<_}
-use native.Mathlib.Nat.{not-suc-le-zero}
+use Prim.Native.Nat.{ℕ, zero, suc, _+_, _≤_, _<_}
 use native.Mathlib.Decide.{ℕ-discrete}
 use native.Mathlib.Omega.{arith}
 use mathlib.Core.List.{List}
 use lib.ListN.{length, getD, set, length-set}
-use borrow.Author.Tests.{leb-true}
 use lib.Seq.{getD-set-same, getD-set-other}
 use Rattle.rules.specs.declared.Starts.{Starts}
 use Rattle.rules.specs.Basic.{half}
-use Rattle.rules.specs.Table.{Routine, routine, exprOf, commandOf}
-use Rattle.rules.specs.Reading.{rowGood}
+use Rattle.rules.specs.Table.{routine, exprOf, commandOf}
 use Rattle.rules.specs.Kinds.{kindOf, kind, exprKind, commandKind}
-use Rattle.view.specs.declared.TypeRow.{TypeRow}
 use Rattle.view.specs.declared.ExprRow.{ExprRow}
 use Rattle.view.specs.declared.CommandRow.{CommandRow}
-use Rattle.laws.specs.WellRead.{WellRead}
-use Rattle.view.specs.Rows.{typeRow, exprRow, commandRow, ExprAsked, CommandAsked, TypeAsked}
+use Rattle.view.specs.Rows.{exprRow, commandRow, ExprAsked, CommandAsked}
 use Rattle.checker.specs.Tables.{kindBy, RowTables, ExprGiven, CommandGiven, Marked, KindsOf}
-use Rattle.checker.specs.Judge.{MarkedFile, Rows, Targets}
+use Rattle.checker.specs.Judge.{MarkedFile, Rows}
 
 abbrev pub rows-of : {s : List ℕ} {at : Starts} {Y T K : List ℕ} → MarkedFile s at Y T K → RowTables Y T K
 rows-of {s} {at} g =
@@ -107,41 +102,3 @@ kinds-more {m} {K} {i} {x} marked l g e =
 
 pub kinds-all : {m K : List ℕ} {i : ℕ} → KindsOf m i K → i ≤ length m → length m ≤ i → KindsOf m (length m) K
 kinds-all {m} {K} {i} g h l = let e : length m ≡ i = omega arith in rw e g
-
--- ---- the table of targets
-
--- The entries below t are right.
-pub record TargetsBelow (r : Routine) (t : ℕ) (T : List ℕ) : Type 0 where
-  pub size : length T ≡ 256
-  pub each : (u : ℕ) → 1 ≤ u → u < t → getD T u 0 ≡ r .target u
-
-module _ {s : List ℕ} {at : Starts} (file : WellRead s at) where
-  pub type-asked : {t : ℕ} → t ≤ half s (at .types) → TypeAsked s at t
-  type-asked l = record { file = file; row = l }
-
-  falls : (t : ℕ) → t < half s (at .types) → routine s at .target (suc t) ≤ t
-  unfolding rowGood
-  falls t l = let e : at .types + 2 * suc t ≡ at .types + 2 + 2 * t = omega arith in rw e (leb-true _ _ (file .types .good t l))
-
-  pub target-small : (t : ℕ) → 1 ≤ t → t ≤ half s (at .types) → routine s at .target t < 256
-  target-small zero h l = absurd (not-suc-le-zero h)
-  target-small (suc t) h l = omega (arith, falls t l, file .types .few)
-
-  pub row-small : {t : ℕ} {row : TypeRow} → 1 ≤ t → t ≤ half s (at .types) → row ≡ typeRow s at t → row .target < 256
-  row-small {t} h l e = rw (ap (λ (x : TypeRow). x .target) e) (target-small t h l)
-
-pub targets-none : {r : Routine} {T : List ℕ} → length T ≡ 256 → TargetsBelow r 1 T
-targets-none l = record { size = l; each = λ u h k. absurd (omega arith) }
-
-pub targets-more : {r : Routine} {t x : ℕ} {T : List ℕ} → t < 256 → TargetsBelow r t T → x ≡ r .target t → TargetsBelow r (t + 1) (set T t x)
-targets-more {r} {t} {x} {T} l g e =
-    record { size = rw length-set (g .size); each = λ u h k. elim (ℕ-discrete u t) [ yes q ↦ here u q | no d ↦ there u h k d ] }
-  where
-    here : (u : ℕ) → u ≡ t → getD (set T t x) u 0 ≡ r .target u
-    here u q = ap (λ j. getD (set T t x) j 0) q ∙ getD-set-same T t x 0 (omega (arith, g .size)) ∙ e ∙ ap (r .target) (sym q)
-
-    there : (u : ℕ) → 1 ≤ u → u < t + 1 → (u ≡ t → ⊥) → getD (set T t x) u 0 ≡ r .target u
-    there u h k d = getD-set-other T t u x 0 d ∙ g .each u h (omega arith)
-
-pub targets-all : {r : Routine} {t n : ℕ} {T : List ℕ} → TargetsBelow r t T → n < t → Targets r n T × (length T ≡ 256)
-targets-all g l = (record { each = λ u h k. g .each u h (omega arith) }, g .size)

@@ -1,6 +1,6 @@
 -- A file that was read and a marking, as the tables that the checker goes by; and refusal 8 by itself.
 use mathlib.Core.Path.{_≡_}
-use Prim.Native.Nat.{ℕ, suc, _≤_, _<_}
+use Prim.Native.Nat.{ℕ, suc, _<_}
 use mathlib.Core.List.{List}
 use lib.ListN.{length, getD}
 use Rattle.rules.specs.declared.Starts.{Starts}
@@ -38,10 +38,6 @@ breaking r m at =
     firstBad 8 (λ e. exprKind r m (r .expr e)) (r .exprPlace) 0 (r .exprs) λ _.
     firstBad 8 (λ c. commandKind r m (r .command c)) (r .commandPlace) 0 (r .commands) λ _.
     fine at
-
--- The first n entries of a table of targets, from type 1 on.
-pub record Targets (r : Routine) (n : ℕ) (targets : List ℕ) : Type 0 where
-  pub each : (t : ℕ) → 1 ≤ t → t ≤ n → getD targets t 0 ≡ r .target t
 
 -- What checking with a table answers, and what the table then has.
 pub record CheckedTyped (s m types : List ℕ) (r : ReadAnswer) : Type 0 where

@@ -7,7 +7,6 @@ use view::Counts;
 use view::command_row;
 use view::expr_row;
 use view::row_counts;
-use view::type_row;
 ghost use mathlib.Core.Path.{_≡_};
 ghost use Prim.Native.Nat.{ℕ, suc, _+_, _*_, _≤_, _<_};
 ghost use lib.ListN.{length, getD};
@@ -16,9 +15,8 @@ ghost use Rattle.rules.specs.Kinds.{kinds, kindConverts, targetsMatter, typeKin
 ghost use Rattle.rules.specs.Basic.{half, fine};
 ghost use Rattle.rules.specs.Calls.{readSays, checkSays, checking};
 ghost use Rattle.rules.specs.Table.{exprOf, commandOf, routine};
-ghost use Rattle.laws.specs.WellRead.{WellRead};
 ghost use Rattle.view.specs.Rows.{countsOf};
-ghost use Rattle.checker.specs.Judge.{CheckedTyped, TypedFile, MarkedFile, Rows, Targets, breaking};
+ghost use Rattle.checker.specs.Judge.{CheckedTyped, TypedFile, MarkedFile, Rows, breaking};
 ghost use Rattle.checker.specs.Tables.{kindBy, TwoTypes, OneType, AllTypes, ExprGiven, CommandGiven, Marked, KindsOf};
 ghost use Rattle.checker.specs.First.{FirstBad};
 
@@ -255,19 +253,6 @@ fn bad_command(
     i
 }
 
-// The targets of a file's n types, each at its type's number.
-fn fill_targets(file: &[u8], at: Starts, n: usize, targets: &mut [u8; 256])
-    requires { ⌜ WellRead (now file) at × (n ≡ half (now file) (at .types)) × (length (now targets) ≡ 256) ⌝ }
-    ensures { λ _. ⌜ Targets (routine (now (file .entry)) at) n (now (targets .exit)) × (length (now (targets .exit)) ≡ 256) ⌝ }
-{
-    let mut t: usize = 1;
-    while t <= n {
-        let row = type_row(file, at, t);
-        targets[t] = narrow(row.target);
-        t += 1;
-    }
-}
-
 // The kinds of a marking's types, each at its type's number.
 fn fill_kinds(marking: &[u8], kinds: &mut [u8; 256])
     requires { ⌜ Marked (now marking) × (length (now kinds) ≡ 256) × (getD (now kinds) 0 0 ≡ 0) ⌝ }
@@ -365,7 +350,7 @@ fn judge(file: &[u8], at: Starts, types: &[u16; 1024], marking: &[u8]) -> ReadAn
     }
     let mut targets = [0u8; 256];
     let mut kinds = [0u8; 256];
-    fill_targets(file, at, n, &mut targets);
+    targets::fill(file, at, n, &mut targets);
     fill_kinds(marking, &mut kinds);
     judge_rows(file, at, types, &targets, &kinds, counts)
 }

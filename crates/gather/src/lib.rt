@@ -10,7 +10,6 @@ ghost use Rattle.laws.specs.Formed.{Formed};
 ghost use Rattle.gather.specs.Notes.{NotedIn};
 ghost use Rattle.gather.specs.Gathering.{Noting};
 ghost use Rattle.gather.specs.Operands.{Typed};
-ghost use Rattle.gather.specs.Tables.{Filled};
 
 // All SAFE.
 pub fn clear(m: &mut [u8])
@@ -19,19 +18,6 @@ pub fn clear(m: &mut [u8])
     let mut i: usize = 0;
     while i < m.len() {
         m[i] = 0;
-        i += 1;
-    }
-}
-
-// The targets of the file's types, into a table of zeros.
-pub fn targets(file: &[u8], at: Starts, n: usize, table: &mut [u8; 256])
-    requires { ⌜ WellRead (now file) at × Formed (routine (now file) at) × (n ≡ half (now file) (at .types)) × (length (now table) ≡ 256) × ((x : ℕ) → getD (now table) x 0 ≡ 0) ⌝ }
-    ensures { λ _. ⌜ Filled (routine (now (file .entry)) at) (n + 1) (now (table .exit)) ⌝ }
-{
-    let mut i: usize = 1;
-    while i <= n {
-        let row = view::type_row(file, at, i);
-        table[i] = row.target as u8;
         i += 1;
     }
 }

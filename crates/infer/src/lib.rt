@@ -33,7 +33,7 @@ pub fn mark(file: &[u8], at: Starts, ty: &[u16; 1024], m: &mut [u8])
     let mut from = [0u8; 2048];
     let mut to = [0u8; 2048];
     gather::clear(m);
-    gather::targets(file, at, m.len(), &mut table);
+    targets::fill(file, at, m.len(), &mut table);
     let n = gather::rows(file, at, ty, &mut from, &mut to, m);
     least_above(&table, &from[..n], &to[..n], m);
 }

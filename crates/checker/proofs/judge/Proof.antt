@@ -10,10 +10,10 @@ use Rattle.checker.proofs.judge.Reads as reads
 use Rattle.checker.proofs.judge.Lts as lts
 use Rattle.checker.proofs.bad_byte.Reads as bad-byte-reads
 use Rattle.checker.proofs.fill_kinds.Reads as fill-kinds-reads
-use Rattle.checker.proofs.fill_targets.Reads as fill-targets-reads
 use Rattle.checker.proofs.judge_rows.Reads as judge-rows-reads
 use Rattle.checker.proofs.refuse.Reads as refuse-reads
 use Rattle.checker.proofs.wide.Reads as wide-reads
+use Rattle.targets.proofs.fill.Reads as fill-reads
 use Rattle.view.proofs.row_counts.Reads as row-counts-reads
 
 -- src/lib.rt:338:9
@@ -65,8 +65,8 @@ returns-3 : tie.Need-returns-3
 returns-3 c = ap readSays (c .refuse3 .ensures) ∙ byte-fails _ (c .before .before .before .before .before .before .before .before .before .pre) (c .before .before .before .before .before .wide .ensures ∙ ap (λ (x : Counts). x .types) (c .before .before .before .before .before .before .row-counts .ensures)) (c .before .before .before .before .if1 .left) (c .before .before .before .if2 .left) (c .before .before .bad-byte .ensures) (c .before .if3 .taken)
 
 -- src/lib.rt:353:5
-fill-targets-requires : tie.Need-fill-targets-requires
-fill-targets-requires c κs = (c .before .before .before .before .before .before .before .before .before .pre .file, (c .before .before .before .before .before .wide .ensures ∙ ap (λ (x : Counts). x .types) (c .before .before .before .before .before .before .row-counts .ensures)), refl)
+fill-requires : tie.Need-fill-requires
+fill-requires c κs = (c .before .before .before .before .before .before .before .before .before .pre .file, (c .before .before .before .before .before .wide .ensures ∙ ap (λ (x : Counts). x .types) (c .before .before .before .before .before .before .row-counts .ensures)), refl)
 
 -- src/lib.rt:354:5
 fill-kinds-requires : tie.Need-fill-kinds-requires
@@ -74,11 +74,11 @@ fill-kinds-requires c κs = (marked-bytes _ (c .before .before .before .before .
 
 -- src/lib.rt:355:5
 judge-rows-requires : tie.Need-judge-rows-requires
-judge-rows-requires c κs = (marked-file _ (c .before .before .before .before .before .before .before .before .before .before .before .before .before .before .pre) (c .before .before .before .before .before .before .before .before .before .before .wide .ensures ∙ ap (λ (x : Counts). x .types) (c .before .before .before .before .before .before .before .before .before .before .before .row-counts .ensures)) (c .before .before .before .before .before .before .before .before .before .if1 .left) (c .before .before .before .before .before .before .before .before .if2 .left) (c .before .before .before .before .before .before .before .bad-byte .ensures) (c .before .before .before .before .before .before .if3 .left) (c .before .before .before .before .fill-targets .ensures .0) (c .before .before .fill-kinds .ensures), c .before .before .before .before .before .before .before .before .before .before .before .row-counts .ensures)
+judge-rows-requires c κs = (marked-file _ (c .before .before .before .before .before .before .before .before .before .before .before .before .before .before .pre) (c .before .before .before .before .before .before .before .before .before .before .wide .ensures ∙ ap (λ (x : Counts). x .types) (c .before .before .before .before .before .before .before .before .before .before .before .row-counts .ensures)) (c .before .before .before .before .before .before .before .before .before .if1 .left) (c .before .before .before .before .before .before .before .before .if2 .left) (c .before .before .before .before .before .before .before .bad-byte .ensures) (c .before .before .before .before .before .before .if3 .left) (c .before .before .before .before .fill .ensures) (c .before .before .fill-kinds .ensures), c .before .before .before .before .before .before .before .before .before .before .before .row-counts .ensures)
 
 -- src/lib.rt:334:1
 returns-4 : tie.Need-returns-4
-returns-4 c = rows-decide _ (c .before .before .before .before .before .before .before .before .before .before .before .before .before .before .before .pre) (c .before .before .before .before .before .before .before .before .before .before .before .wide .ensures ∙ ap (λ (x : Counts). x .types) (c .before .before .before .before .before .before .before .before .before .before .before .before .row-counts .ensures)) (c .before .before .before .before .before .before .before .before .before .before .if1 .left) (c .before .before .before .before .before .before .before .before .before .if2 .left) (c .before .before .before .before .before .before .before .before .bad-byte .ensures) (c .before .before .before .before .before .before .before .if3 .left) (c .before .before .before .before .before .fill-targets .ensures .0) (c .before .before .before .fill-kinds .ensures) (c .judge-rows .ensures)
+returns-4 c = rows-decide _ (c .before .before .before .before .before .before .before .before .before .before .before .before .before .before .before .pre) (c .before .before .before .before .before .before .before .before .before .before .before .wide .ensures ∙ ap (λ (x : Counts). x .types) (c .before .before .before .before .before .before .before .before .before .before .before .before .row-counts .ensures)) (c .before .before .before .before .before .before .before .before .before .before .if1 .left) (c .before .before .before .before .before .before .before .before .before .if2 .left) (c .before .before .before .before .before .before .before .before .bad-byte .ensures) (c .before .before .before .before .before .before .before .if3 .left) (c .before .before .before .before .before .fill .ensures) (c .before .before .before .fill-kinds .ensures) (c .judge-rows .ensures)
 
 pub judge-spec : {M : Type 1} → statement M
 judge-spec =
@@ -96,7 +96,7 @@ judge-spec =
     cast-refuse-3
     refuse-requires-3
     returns-3
-    fill-targets-requires
+    fill-requires
     fill-kinds-requires
     judge-rows-requires
     returns-4)

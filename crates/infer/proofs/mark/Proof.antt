@@ -1,6 +1,7 @@
 -- `infer::mark` meets its contract: the rows of the file give tables that are fit for the inference, whose marking is then the file's least one.
 use mathlib.Core.Path.{refl, _∙_}
 use Rattle.raise.specs.Marks.{zeros}
+use Rattle.gather.specs.Tables.{filled-from}
 use Rattle.gather.specs.Gathering.{noting-none}
 use Rattle.infer.specs.Marked.{from-part, to-part, tables-fit, marked, behind, clear-size, clear-mark}
 use borrow.Author.Needs.{needs}
@@ -10,8 +11,8 @@ use Rattle.infer.proofs.mark.Tie as tie
 clear-requires : tie.Need-clear-requires
 clear-requires c κs = search needs
 
-targets-requires : tie.Need-targets-requires
-targets-requires c κs = (c .before .before .before .before .before .before .before .pre .0 .file, c .before .before .before .before .before .before .before .pre .0 .formed, clear-size (c .before .before .before .clear .ensures) ∙ c .before .before .before .before .before .before .before .pre .1, refl, zeros 256)
+fill-requires : tie.Need-fill-requires
+fill-requires c κs = (c .before .before .before .before .before .before .before .pre .0 .file, clear-size (c .before .before .before .clear .ensures) ∙ c .before .before .before .before .before .before .before .pre .1, refl)
 
 rows-requires : tie.Need-rows-requires
 rows-requires c κs = (c .before .before .before .before .before .before .before .before .before .before .before .pre .0, noting-none refl refl (clear-mark (c .before .before .before .before .before .before .before .clear .ensures) (c .before .before .before .before .before .before .before .before .before .before .before .pre .1)))
@@ -32,20 +33,20 @@ slice-aggregate-least-above-3 : tie.Need-slice-aggregate-least-above-3
 slice-aggregate-least-above-3 c = to-part (c .before .before .before .before .before .before .before .before .before .before .before .before .before .before .before .before .before .pre .0) (c .before .before .before .before .before .rows .ensures)
 
 least-above-requires : tie.Need-least-above-requires
-least-above-requires c κs = tables-fit (c .before .before .before .before .before .before .before .before .before .before .before .before .before .before .before .before .before .before .pre .0) (c .before .before .before .before .before .before .rows .ensures) (c .before .before .before .before .before .before .before .before .before .before .targets .ensures)
+least-above-requires c κs = tables-fit (c .before .before .before .before .before .before .before .before .before .before .before .before .before .before .before .before .before .before .pre .0) (c .before .before .before .before .before .before .rows .ensures) (filled-from (c .before .before .before .before .before .before .before .before .before .before .before .before .before .before .before .before .before .before .pre .0 .formed .falls) (clear-size (c .before .before .before .before .before .before .before .before .before .before .before .before .before .before .clear .ensures) ∙ c .before .before .before .before .before .before .before .before .before .before .before .before .before .before .before .before .before .before .pre .1) (c .before .before .before .before .before .before .before .before .before .before .fill .ensures) (zeros 256))
 
 same-length : tie.Need-same-length
 same-length c = search needs
 
 returns : tie.Need-returns
-returns c = marked (c .before .before .before .before .before .before .before .before .before .before .before .before .before .before .before .before .before .before .before .before .before .pre .0) (c .before .before .before .before .before .before .before .before .before .rows .ensures) (c .before .before .before .before .before .before .before .before .before .before .before .before .before .targets .ensures) (behind (clear-size (c .before .before .before .before .before .before .before .before .before .before .before .before .before .before .before .before .before .clear .ensures) ∙ c .before .before .before .before .before .before .before .before .before .before .before .before .before .before .before .before .before .before .before .before .before .pre .1)) (c .before .before .least-above .ensures)
+returns c = marked (c .before .before .before .before .before .before .before .before .before .before .before .before .before .before .before .before .before .before .before .before .before .pre .0) (c .before .before .before .before .before .before .before .before .before .rows .ensures) (filled-from (c .before .before .before .before .before .before .before .before .before .before .before .before .before .before .before .before .before .before .before .before .before .pre .0 .formed .falls) (clear-size (c .before .before .before .before .before .before .before .before .before .before .before .before .before .before .before .before .before .clear .ensures) ∙ c .before .before .before .before .before .before .before .before .before .before .before .before .before .before .before .before .before .before .before .before .before .pre .1) (c .before .before .before .before .before .before .before .before .before .before .before .before .before .fill .ensures) (zeros 256)) (behind (clear-size (c .before .before .before .before .before .before .before .before .before .before .before .before .before .before .before .before .before .clear .ensures) ∙ c .before .before .before .before .before .before .before .before .before .before .before .before .before .before .before .before .before .before .before .before .before .pre .1)) (c .before .before .least-above .ensures)
 
 pub mark-spec : {M : Type 1} → statement M
 mark-spec =
     tie.close
     (tie.spec
     clear-requires
-    targets-requires
+    fill-requires
     rows-requires
     slice-aggregate-least-above
     array-share-prefix-from
