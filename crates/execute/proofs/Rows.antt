@@ -22,7 +22,7 @@ use Rattle.rules.specs.Values.{truth, reach, kept}
 use Rattle.rules.specs.Run.{noRule, failed, got, Ran as Runs, done, halted, enter, turns, eval, commandRow, exec}
 use Rattle.rules.specs.Calls.{stateOf}
 use Rattle.rules.specs.Valid.{ValidState}
-use Rattle.laws.specs.Promises.{Ended, atStop}
+use Rattle.laws.specs.Promises.{Ends, atStop}
 use Rattle.laws.specs.Forget.{value, rule, ended, enter-answer, store-answer, seq-answer, if-answer}
 use Rattle.laws.specs.Depth.{exec-row}
 use Rattle.laws.specs.Formed.{CommandFits}
@@ -217,7 +217,7 @@ module _ (r : Routine) (hs : List Home) (memory : List ℕ) where
   entry-kept p f c stuck x n i j = let z : _≡_ {A = ℕ} 0 1 = cc in absurd (omega arith)
 
 -- A run that has ended was not stuck at its rule.
-pub rule-fine : {Y : Type 0} (w : State) (p f : ℕ) (u : Ruled Y) (k : Y → Runs) → Ended (rule (halted w) p f u k) → Fine u
+pub rule-fine : {Y : Type 0} (w : State) (p f : ℕ) (u : Ruled Y) (k : Y → Runs) → Ends (rule (halted w) p f u k) → Fine u
 rule-fine w p f (gives y) k h = given
 rule-fine w p f (fails c) k h = fine-failed
 rule-fine w p f stuck k (atStop y) = elim y [ ]
@@ -301,7 +301,7 @@ module _ {t memory : List ℕ} {row : ℕ} (g : Commanded t memory row) where
   step (suc f) z = rw (sub-one (suc f)) (once f)
 
   -- So the row's soundness, which holds of any fuel, speaks of the row once it has been entered.
-  pub sound : (f : ℕ) → Ended (enteredRun g f)
+  pub sound : (f : ℕ) → Ends (enteredRun g f)
   sound f = rw (once f) at (exec-ok (g .table .formed) (g .table .accepted) row (suc f) (g .inside) (g .valid) .answer)
 
   named-value : (a f : ℕ) (v : Value) (f₁ : ℕ) → a < R .exprs → eval R M W a f .answer ≡ got v f₁ → Named v

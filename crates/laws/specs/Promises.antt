@@ -23,7 +23,7 @@ use Rattle.rules.specs.Ruled.{Check, check2, gives, fails}
 use Rattle.rules.specs.Values.{convert, reach, moved}
 use Rattle.rules.specs.Run.{Stop, noFuel, failed, noRule, Ran, done, halted, start, run}
 use Rattle.rules.specs.Valid.{Real, InHome, Valid, ValidState}
-use Rattle.rules.specs.Calls.{formed, judged, cellCount, outOfFuel, endingOf, stateOf, Left, Ended as Report, Inferred, checking, running, readSays, checkSays, inferSays, runSays, runnable}
+use Rattle.rules.specs.Calls.{formed, judged, cellCount, outOfFuel, endingOf, stateOf, Left, Ended, Inferred, checking, running, readSays, checkSays, inferSays, runSays, runnable}
 use Rattle.laws.specs.Formed.{Fits, CommandFits}
 use Rattle.laws.specs.Graph.{Meets, Each, demands}
 
@@ -38,9 +38,9 @@ pub data Proper : Stop → Type 0 where
   check : {c : Check} {p f : ℕ} → Proper (failed c p f)
 
 -- A run is done, out of fuel or stopped by a check.
-pub data Ended : Ran → Type 0 where
-  atDone : {w : State} {f : ℕ} → Ended (done w f)
-  atStop : {w : State} {s : Stop} → Proper s → Ended (halted w s)
+pub data Ends : Ran → Type 0 where
+  atDone : {w : State} {f : ℕ} → Ends (done w f)
+  atStop : {w : State} {s : Stop} → Proper s → Ends (halted w s)
 
 -- The fuel that is left.
 abbrev pub leftAt : Stop → ℕ
@@ -76,7 +76,7 @@ pub data Longer {X : Type 0} (more : X → X) (out : ℕ → X → Type 0) (x y 
 -- A run from state w, step by step. `before` is any part of its steps from the first on.
 pub record Safe (r : Routine) (m : List ℕ) (w : State) (x : Told Ran) : Type 0 where
   -- It ends in done, fuel or a check 1 to 4: it is never stuck.
-  pub outcome : Ended (x .answer)
+  pub outcome : Ends (x .answer)
   -- It never stores outside the homes.
   pub inside : (before after : List Step) (a : ℕ) (v : Value) → x .steps ≡ before ++ stored a v ∷ after → InHome (replay w before .homes) a
   -- At the start, and after every step, each cell holds a value valid for its home.
@@ -125,7 +125,7 @@ abbrev pub Prefixes : Type 0
 Prefixes = (r : Routine) (m lent : List ℕ) (k d : ℕ) → Longer (ranMore d) CutRan (run r m lent k) (run r m lent (k + d))
 
 -- What the lent memory held before does not matter: ending, units and cells are functions of file, marking and fuel alone.
-pub record SameRun (cells : ℕ) (x y : Left Report) : Type 0 where
+pub record SameRun (cells : ℕ) (x y : Left Ended) : Type 0 where
   pub answers : x .answer ≡ y .answer
   pub memory : take cells (x .lent) ≡ take cells (y .lent)
 

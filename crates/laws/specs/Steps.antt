@@ -9,7 +9,7 @@ use Rattle.rules.specs.Calls.{stateOf}
 use Rattle.rules.specs.Valid.{InHome, ValidState}
 use Prim.Native.Nat.{ℕ, zero, suc}
 use mathlib.Core.List.{List, [], _∷_, _++_}
-use Rattle.laws.specs.Promises.{Proper, fuel, check, Ended, atDone, atStop}
+use Rattle.laws.specs.Promises.{Proper, fuel, check, Ends, atDone, atStop}
 use Rattle.laws.specs.Values.{Ok, holds, checkFails}
 
 pub data Answers (P : Value → Type 0) : Answer → Type 0 where
@@ -33,7 +33,7 @@ module _ (r : Routine) (m : List ℕ) where
   Evaluates w P x = Goes (λ _. w) (Answers P) w x
 
   abbrev pub Executes : State → Told Ran → Type 0
-  Executes w x = Goes stateOf Ended w x
+  Executes w x = Goes stateOf Ends w x
 
 module _ {r : Routine} {m : List ℕ} where
   join : {w w′ w″ : State} {l k : List Step} → Steps r m w l w′ → Steps r m w′ k w″ → Steps r m w (l ++ k) w″
@@ -89,6 +89,6 @@ module _ {r : Routine} {m : List ℕ} where
   unfolding afterwards
   goes-on {w} {x} {k} ok h i = go (x .answer) (h .answer) (h .steps)
     where
-      go : (a : Ran) → Ended a → Steps r m w (x .steps) (stateOf a) → Executes r m w (after (x .steps) (onDone a k))
+      go : (a : Ran) → Ends a → Steps r m w (x .steps) (stateOf a) → Executes r m w (after (x .steps) (onDone a k))
       go (done w′ f) atDone s = let y = i w′ f (steps-valid ok s) in record { steps = join s (y .steps); answer = y .answer }
       go (halted w′ t) (atStop y) s = record { steps = join s still; answer = atStop y }

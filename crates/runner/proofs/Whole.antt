@@ -10,8 +10,8 @@ use Rattle.rules.specs.Basic.{half}
 use Rattle.rules.specs.Steps.{units}
 use Rattle.rules.specs.Table.{Home, Routine, routine}
 use Rattle.rules.specs.Run.{start, exec, run}
-use Rattle.rules.specs.Calls.{endingOf, stateOf, Left, Ended as Endings, outcomeSays, runSays, reported}
-use Rattle.laws.specs.Promises.{Ended, atStop, leftAfter}
+use Rattle.rules.specs.Calls.{endingOf, stateOf, Left, Ended, outcomeSays, runSays, reported}
+use Rattle.laws.specs.Promises.{Ends, atStop, leftAfter}
 use Rattle.laws.specs.Start.{start-ok}
 use Rattle.laws.specs.Sound.{exec-ok}
 use Rattle.laws.specs.Units.{exec-spends}
@@ -40,7 +40,7 @@ module _ (s : List ℕ) (at : Starts) (hs : List Home) (memory : List ℕ) where
   abbrev R : Routine
   R = routine s at
 
-  says-ending : (x : Ran) (fuel : ℕ) → Ended (ranTold R hs x memory) → outcomeSays (reportOf at x fuel .outcome) ≡ endingOf (ranTold R hs x memory)
+  says-ending : (x : Ran) (fuel : ℕ) → Ends (ranTold R hs x memory) → outcomeSays (reportOf at x fuel .outcome) ≡ endingOf (ranTold R hs x memory)
   says-ending (Done f) fuel y = refl
   says-ending (Fuel i) fuel y = refl
   says-ending (Check zero i f) fuel (atStop y) = elim y [ ]
@@ -121,7 +121,7 @@ module _ {s m ty t : List ℕ} {at : Starts} (y : Accepted s at m ty) (d : Comma
       last : half s (at .commands) - 1 < half s (at .commands)
       last = omega (arith, some)
 
-      ended : Ended (ranTold (routine s at) H x after)
+      ended : Ends (ranTold (routine s at) H x after)
       ended = rw is (exec-ok (well y) (fit y) (half s (at .commands) - 1) fuel last (start-ok (routine s at) m (well y) lent) .answer)
 
       spent : units (run (routine s at) m lent fuel .steps) + left s at H after x ≡ fuel
@@ -141,7 +141,7 @@ module _ {s m ty t : List ℕ} {at : Starts} (y : Accepted s at m ty) (d : Comma
       pub reportable : Reportable at x fuel
       reportable = reports s at H after x fuel placed (omega (arith, spent))
 
-      pub whole : (r : Report) → r ≡ reportOf at x fuel → _≡_ {A = Left Endings} (record { answer = runSays (runs.Ran r); lent = after }) (reported (run (routine s at) m lent fuel))
+      pub whole : (r : Report) → r ≡ reportOf at x fuel → _≡_ {A = Left Ended} (record { answer = runSays (runs.Ran r); lent = after }) (reported (run (routine s at) m lent fuel))
       whole r e =
           let a : outcomeSays (r .outcome) ≡ endingOf (run (routine s at) m lent fuel .answer)
           = ap (λ (z : Report). outcomeSays (z .outcome)) e ∙ says-ending s at H after x fuel ended ∙ ap endingOf is in
