@@ -113,7 +113,12 @@ fn run(name: &str, samples: &[Sample]) {
         },
         || {
             for s in samples {
-                let _ = black_box(peer::run_file(black_box(&s.file), &s.marking, s.fuel, &mut b));
+                let _ = black_box(peer::run_file(
+                    black_box(&s.file),
+                    &s.marking,
+                    s.fuel,
+                    &mut b,
+                ));
             }
         },
     );
@@ -138,21 +143,87 @@ fn growing(n: u16) -> Vec<u8> {
     b.file()
 }
 
+/// A chain of 4n casts over n types, made SEQ by its last row: each pass over
+/// the conversions takes SEQ back by one.
+fn rising(n: u16) -> Vec<u8> {
+    let mut b = Builder::new();
+    for _ in 0..n {
+        b.reference(Type::INT);
+    }
+    let zero = b.literal(0);
+    let mut pointer = b.null(Type(1));
+    for cast in 0..4 * n {
+        pointer = b.cast(pointer, Type(1 + cast / 4));
+    }
+    b.sum(pointer, zero);
+    b.skip();
+    b.file()
+}
+
+/// Two chains of 127 types, all SAFE, and 2,045 conversions between their
+/// tops: each compares the chains down to int.
+fn deepest_equal() -> Sample {
+    let mut b = Builder::new();
+    for t in 0..127 {
+        b.reference(Type(t));
+    }
+    b.reference(Type::INT);
+    for t in 128..254 {
+        b.reference(Type(t));
+    }
+    let above = b.reference(Type(127));
+    let (one, other) = (b.null(Type(127)), b.null(Type(254)));
+    let place = b.null(above);
+    for _ in 0..1021 {
+        b.cast(one, Type(254));
+    }
+    for _ in 0..1024 {
+        b.store(place, other);
+    }
+    Sample {
+        name: "deepest-equal".into(),
+        file: b.file(),
+        marking: vec![0; 255],
+        fuel: 0,
+    }
+}
+
 fn main() {
     let all = samples::all();
-    let named = |name: &str| all.iter().find(|s| s.name == name).expect("a sample").clone();
-    let trays: Vec<Sample> = all.iter().filter(|s| s.name.starts_with("tray-")).cloned().collect();
+    let named = |name: &str| {
+        all.iter()
+            .find(|s| s.name == name)
+            .expect("a sample")
+            .clone()
+    };
+    let trays: Vec<Sample> = all
+        .iter()
+        .filter(|s| s.name.starts_with("tray-"))
+        .cloned()
+        .collect();
     let files = ["longest", "counting-loop", "sort", "tray-1"].map(named);
-    let worst = ["longest", "rising-seq", "falling-dynamic", "deep-pairs", "ladder"].map(named);
+    let worst = [
+        "longest",
+        "rising-seq",
+        "falling-dynamic",
+        "deep-pairs",
+        "ladder",
+    ]
+    .map(named);
 
     heading("Reading");
     files.iter().for_each(read);
 
     heading("Checking, under the least marking");
     files.iter().chain(&worst[1..]).for_each(check);
+    check(&deepest_equal());
 
     heading("Inference");
-    let most = files.iter().chain(&worst[1..]).map(|s| infer(&s.name, &s.file)).fold(0.0, f64::max);
+    let most = files
+        .iter()
+        .chain(&worst[1..])
+        .map(|s| infer(&s.name, &s.file))
+        .fold(0.0, f64::max);
     println!("\nThe slowest inference took {:.2} ms.", most / 1000.0);
 
     heading("Inference, a chain of n types with casts between neighbours");
@@ -160,8 +231,21 @@ fn main() {
         infer(&format!("n = {n}"), &growing(n));
     }
 
+    heading("Inference, 4n casts over n types, raised in the worst order");
+    for n in [32, 64, 128, 250] {
+        infer(&format!("n = {n}"), &rising(n));
+    }
+
     heading("Running, whole calls from bytes");
-    for name in ["counting-loop", "copy-seq", "copy-dynamic", "deep-expression", "deep-commands", "sort", "pointers"] {
+    for name in [
+        "counting-loop",
+        "copy-seq",
+        "copy-dynamic",
+        "deep-expression",
+        "deep-commands",
+        "sort",
+        "pointers",
+    ] {
         run(name, &[named(name)]);
     }
     run("thirty small routines", &trays);

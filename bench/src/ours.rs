@@ -21,8 +21,18 @@ mod c {
 
     extern "C" {
         pub fn sledkindle_read(file: *const u8, file_len: usize) -> Answer;
-        pub fn sledkindle_check(file: *const u8, file_len: usize, marking: *const u8, marking_len: usize) -> Answer;
-        pub fn sledkindle_infer(file: *const u8, file_len: usize, marking: *mut u8, marking_len: usize) -> Answer;
+        pub fn sledkindle_check(
+            file: *const u8,
+            file_len: usize,
+            marking: *const u8,
+            marking_len: usize,
+        ) -> Answer;
+        pub fn sledkindle_infer(
+            file: *const u8,
+            file_len: usize,
+            marking: *mut u8,
+            marking_len: usize,
+        ) -> Answer;
         pub fn sledkindle_run(
             file: *const u8,
             file_len: usize,
@@ -44,7 +54,14 @@ pub fn check(file: &[u8], marking: &[u8]) -> Answer {
 }
 
 pub fn infer(file: &[u8], marking: &mut [u8]) -> Answer {
-    unsafe { c::sledkindle_infer(file.as_ptr(), file.len(), marking.as_mut_ptr(), marking.len()) }
+    unsafe {
+        c::sledkindle_infer(
+            file.as_ptr(),
+            file.len(),
+            marking.as_mut_ptr(),
+            marking.len(),
+        )
+    }
 }
 
 pub fn run(file: &[u8], marking: &[u8], fuel: u32, memory: &mut [u64]) -> Ran {

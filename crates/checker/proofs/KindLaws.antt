@@ -10,7 +10,7 @@ use lib.Dec.{eqb}
 use Rattle.rules.specs.Basic.{choose}
 use Rattle.rules.specs.Table.{Routine}
 use Rattle.rules.specs.Kinds.{Kind, int, SAFE, SEQ, DYNAMIC, kind, sameKind, deep, same, kindConverts, targetsMatter, converts, spreads}
-use Rattle.laws.specs.Same.{sameKind-eq, sameKind-refl, same-depth}
+use Rattle.laws.specs.Same.{sameKind-eq, sameKind-refl, reflexive, same-depth}
 use Rattle.checker.specs.Tables.{kindBy, TypeTables, TwoTypes}
 
 -- ---- kindConverts, targetsMatter, spreads
@@ -160,6 +160,9 @@ module _ {T K : List ℕ} {t u : ℕ} (g : TwoTypes T K t u) where
   by-tables : same (g .routine) (g .marking) t u ≡ sameKind (kindBy (getD K t 0)) (kindBy (getD K u 0))
       && choose (deep (kindBy (getD K t 0))) (λ _. same (g .routine) (g .marking) (g .routine .target t) (g .routine .target u)) (λ _. true)
   by-tables = rw (g .tables .kindAt t (g .first), g .tables .kindAt u (g .second)) (row-of (g .routine) (g .marking) (g .tables .falls) t u (g .first))
+
+  pub one-type : t ≡ u → true ≡ same (g .routine) (g .marking) t u
+  one-type e = sym (reflexive (g .routine) (g .marking) t) ∙ ap (same (g .routine) (g .marking) t) e
 
   pub kinds-differ : (getD K t 0 ≡ getD K u 0 → ⊥) → false ≡ same (g .routine) (g .marking) t u
   kinds-differ n =

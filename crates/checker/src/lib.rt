@@ -25,6 +25,9 @@ fn same(targets: &[u8; 256], kinds: &[u8; 256], t: u8, u: u8) -> bool
     requires { ⌜ TwoTypes (now targets) (now kinds) t u ⌝ }
     ensures { λ x. ⌜ ((g : TwoTypes (now (targets .entry)) (now (kinds .entry)) t u) → x ≡ Rattle.rules.specs.Kinds.same (g .routine) (g .marking) t u) ⌝ }
 {
+    if t == u {
+        return true;
+    }
     let i = t as usize;
     let j = u as usize;
     let k = kinds[i];

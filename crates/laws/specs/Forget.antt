@@ -1,5 +1,5 @@
--- The answer of a run without its log. Each way of taking an answer apart goes on with the answer alone,
--- so code, whose contracts speak of answers, is held to the same equations with the log left out.
+-- The answer of a run without its steps. Each way of taking an answer apart goes on with the answer alone,
+-- so code, whose contracts speak of answers, is held to the same equations with the steps left out.
 use mathlib.Core.Bool.{Bool, true, false}
 use Rattle.rules.specs.declared.Value.{Value}
 use Rattle.rules.specs.Run.{Stop, noFuel, failed, noRule, Answer, got, stopped, Ran, done, halted, andThen, ruled, enter, afterwards, turns, answered, exprRow, eval, commandRow}
@@ -58,10 +58,10 @@ pub choose-answer : {X : Type 0} (b : Bool) (x y : Unit {0} → Told X) → choo
 choose-answer true x y = refl
 choose-answer false x y = refl
 
--- all of them, for `simp`
+-- All of them, for `simp`.
 pub ruleset forget = (then-answer, rule-answer, enter-answer, on-answer, choose-answer)
 
--- ---- row by row: the equations of document 01 that code goes by
+-- ---- row by row: the equations that code goes by
 
 module _ (r : Routine) (m : List ℕ) where
   pub cast-answer : (w : State) (ev : ℕ → ℕ → Told Answer) (p a t f : ℕ)

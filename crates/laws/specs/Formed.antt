@@ -14,7 +14,7 @@ use lib.ListN.{getD, drop}
 use borrow.Author.Tests.{ltb-true, eqb-true}
 use Rattle.laws.specs.Values.{Falls, target-le}
 
--- a row's fields are in range
+-- A row's fields are in range.
 abbrev pub Fits : Routine → ℕ → Expr → Type 0
 Fits r e (literal n) = n < width
 Fits r e (home g) = Real (r .homes) g
@@ -33,12 +33,12 @@ CommandFits r c (ifElse a b d) = (a < r .exprs) × (b < c) × (d < c)
 CommandFits r c (while a b) = (a < r .exprs) × (b < c)
 CommandFits r c Command.none = ⊥
 
--- one home after the other
+-- One home after the other.
 pub data Consecutive : ℕ → List Home → Type 0 where
   last : {from : ℕ} → Consecutive from []
   behind : {from : ℕ} {h : Home} {hs : List Home} → h .start ≡ from → Consecutive (from + h .size) hs → Consecutive from (h ∷ hs)
 
--- what refusals 1 to 6 see to
+-- What refusals 1 to 6 see to.
 pub record Formed (r : Routine) : Type 0 where
   pub falls : Falls r
   pub homed : {g : ℕ} → Real (r .homes) g → (1 ≤ homeAt (r .homes) g .type) × (homeAt (r .homes) g .type ≤ r .types)

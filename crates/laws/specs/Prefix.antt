@@ -33,7 +33,7 @@ module _ {X : Type 0} {more : X → X} {out : ℕ → X → Type 0} where
   longer-cut : {a : X} (p : ℕ) (l k : List Step) (z : Told X) → out p a → Longer more out (after l (quiet a)) (after (l ++ entered p ∷ k) z)
   longer-cut p l k z o = longer (k ++ z .steps) o (append-assoc l (entered p ∷ k) (z .steps) ∙ ap (λ q. q ++ entered p ∷ (k ++ z .steps)) (sym (append-nil l)))
 
-  -- stops are passed upward by `stop`
+  -- Stops are passed upward by `stop`.
   module _ {stop : Stop → X} (d : ℕ) (stops : (s : Stop) → Longer more out (quiet (stop s)) (quiet (stop (stopMore d s)))) (outs : (p : ℕ) → out p (stop (noFuel p))) where
     longer-then : {f : ℕ} {x y : Told Answer} (k l : Value → ℕ → Told X) → Spends leftOf f x → Longer (answerMore d) Cut x y
         → ((v : Value) (f₁ : ℕ) → f₁ ≤ f → Longer more out (k v f₁) (l v (f₁ + d))) → Longer more out (andThen stop x k) (andThen stop y l)

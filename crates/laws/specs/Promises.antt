@@ -234,7 +234,7 @@ pub record Lossless : Type 0 where
 abbrev pub FirstBytes : Type 0
 FirstBytes = (s : List ℕ) → formed s ≡ formed (take 13063 s)
 
--- and with it what each call answers, and each lent entry afterwards.
+-- And with it what each call answers, and each lent entry afterwards.
 pub record SameCalls (s z : List ℕ) : Type 0 where
   pub checks : (m : List ℕ) → checking s m ≡ checking z m
   pub infers : (lent : List ℕ) (x : Left (Unit {0})) → (Inferred s lent x → Inferred z lent x) × (Inferred z lent x → Inferred s lent x)

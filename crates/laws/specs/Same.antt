@@ -91,7 +91,7 @@ module _ (r : Routine) (m : List ℕ) where
     unfolding same
     same-bound d t u l h = same-depth d (suc (r .types)) t u l h (omega arith)
 
-    -- below types that are equal and neither int nor DYNAMIC, the targets are equal
+    -- Below types that are equal and neither int nor DYNAMIC, the targets are equal.
     pub same-targets : (t u : ℕ) → t ≤ r .types → deep (kind m t) ≡ true → same r m t u ≡ true → same r m (r .target t) (r .target u) ≡ true
     unfolding same
     same-targets zero u l d h = let z : false ≡ true = d in cc

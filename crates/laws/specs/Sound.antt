@@ -1,4 +1,4 @@
--- A run of an accepted routine in a valid world goes by steps that keep memory valid, and is never stuck.
+-- A run of an accepted routine in a valid state goes by steps that keep memory valid, and is never stuck.
 use mathlib.Core.Bool.{true}
 use Rattle.rules.specs.Run.{Answer, exprRow, evalBelow, eval, Ran, turns, commandRow, execBelow, exec}
 use Rattle.rules.specs.Steps.{Told}
@@ -124,6 +124,6 @@ module _ {r : Routine} {m : List ℕ} (formed : Formed r) (accepted : Acceptable
       goes-enter command-stops (r .commandPlace c) f (λ f₁.
       command-ok (r .commandPlace c) (r .command c) y s (accepted .commands c l) (λ w₁ a f₂ k o. exec-below d a f₂ (omega arith) (omega arith) o) f₁ ok)
 
-  -- a command of an accepted routine, from any valid world
+  -- A command of an accepted routine, from any valid state.
   pub exec-ok : (c : ℕ) {w : State} (f : ℕ) → c < r .commands → ValidState r m w → Executes r m w (exec r m w c f)
   exec-ok c f l ok = exec-below (suc c) c f (le-refl (suc c)) l ok

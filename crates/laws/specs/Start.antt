@@ -43,7 +43,7 @@ apart zero (suc i) (behind e c) x y = absurd (omega (arith, x .to, y .from, low 
 apart (suc g) zero (behind e c) x y = absurd (omega (arith, y .to, x .from, low g c (some x)))
 apart (suc g) (suc i) (behind e c) x y = ap suc (apart g i c x y)
 
--- home g + 1 is home g of those after home 0
+-- Home g + 1 is home g of those after home 0.
 next : (hs : List Home) (g : ℕ) → homeAt hs (suc g) ≡ homeAt (drop 1 hs) g
 next [] g = refl
 next (h ∷ hs) g = refl

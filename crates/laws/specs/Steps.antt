@@ -23,12 +23,12 @@ module _ (r : Routine) (m : List ℕ) where
     stores : {w w′ : State} {a : ℕ} {v : Value} {l : List Step} → InHome (w .homes) a → ValidState r m (put w a v) → Steps (put w a v) l w′
         → Steps w (stored a v ∷ l) w′
 
-  -- by such steps from w to the world where the answer leaves it; and Q holds of the answer
+  -- By such steps from w to the state where the answer leaves it; and Q holds of the answer.
   pub record Goes {X : Type 0} (end : X → State) (Q : X → Type 0) (w : State) (x : Told X) : Type 0 where
     pub steps : Steps w (x .steps) (end (x .answer))
     pub answer : Q (x .answer)
 
-  -- an expression, which leaves the world as it is, and a command
+  -- An expression, which leaves the state as it is, and a command.
   abbrev pub Evaluates : State → (Value → Type 0) → Told Answer → Type 0
   Evaluates w P x = Goes (λ _. w) (Answers P) w x
 
@@ -62,7 +62,7 @@ module _ {r : Routine} {m : List ℕ} where
   pub goes-store : {w : State} (a : ℕ) (v : Value) (f : ℕ) → InHome (w .homes) a → ValidState r m (put w a v) → Executes r m w (written w a v f)
   goes-store a v f i ok = record { steps = stores i ok still; answer = atDone }
 
-  -- stops are passed upward by `stop`
+  -- Stops are passed upward by `stop`.
   module _ {X : Type 0} {end : X → State} {Q : X → Type 0} {w : State} {stop : Stop → X} (stops : (s : Stop) → Proper s → Goes r m end Q w (quiet (stop s))) where
     pub goes-then : {P : Value → Type 0} {x : Told Answer} {k : Value → ℕ → Told X}
         → Evaluates r m w P x → ((v : Value) (f : ℕ) → P v → Goes r m end Q w (k v f)) → Goes r m end Q w (andThen stop x k)

@@ -20,7 +20,7 @@ use Rattle.rules.specs.Tests.{false-true}
 use Rattle.laws.specs.Same.{symmetric}
 use Rattle.laws.specs.Values.{Ok, holds, ok-then, ok-map, Falls, Owns, safely, sequently, wildly, convert-ok, valid-same, wild-any, small-address}
 
--- what the low half of an entry holds
+-- What the low half of an entry holds.
 abbrev pub Small : Value → Type 0
 Small (Number n) = n < width
 Small (Pair g n) = n < width
@@ -94,7 +94,7 @@ module _ {r : Routine} {m : List ℕ} {w : State} (ok : ValidState r m w) where
     paired-ok SEQ l (wildly o) e h y = false-true h
     paired-ok DYNAMIC l (wildly o) e h y = holds (wild-holds o y)
 
-    -- what is stored, the home may hold
+    -- What is stored, the home may hold.
     pub kept-ok : {s : Kind} (s′ : Kind) {s″ : Kind} {t u g : ℕ} {v : Value} → u ≤ r .types → Owns r m (w .homes) s u g → kind m u ≡ s′ → spreads s s′ ≡ true
         → kindConverts s″ s′ ≡ true → choose (targetsMatter s″ s′) (λ _. same r m t (r .target u)) (λ _. true) ≡ true
         → ValidAt r m (w .homes) s″ t v → Ok (Holds r m (w .homes) (homeAt (w .homes) g)) (kept w s s′ v)

@@ -20,7 +20,7 @@ abbrev pub leftOf : Answer → ℕ
 leftOf (got v f₀) = f₀
 leftOf (stopped s) = leftAt s
 
--- of fuel f, what the log does not account for is left
+-- Of fuel f, what the steps do not account for is left.
 pub record Spends {X : Type 0} (left : X → ℕ) (f : ℕ) (x : Told X) : Type 0 where
   pub by : units (x .steps) + left (x .answer) ≡ f
 
@@ -46,7 +46,7 @@ expr-stop s = record { by = omega arith }
 command-stop : {w : State} (s : Stop) → Spends leftAfter (leftAt s) (quiet (halted w s))
 command-stop s = record { by = omega arith }
 
--- stops are passed upward by `stop`
+-- Stops are passed upward by `stop`.
 module _ {X : Type 0} {left : X → ℕ} {stop : Stop → X} (stops : (s : Stop) → Spends left (leftAt s) (quiet (stop s))) where
   spends-then : {f : ℕ} {x : Told Answer} {k : Value → ℕ → Told X} → Spends leftOf f x → ((v : Value) (f₁ : ℕ) → f₁ ≤ f → Spends left f₁ (k v f₁))
       → Spends left f (andThen stop x k)

@@ -1,4 +1,4 @@
--- In a valid world, a rule for values is never stuck and gives a valid value.
+-- In a valid state, a rule for values is never stuck and gives a valid value.
 use mathlib.Core.Bool.{Bool, true, false, _&&_, _||_}
 use Rattle.rules.specs.declared.Value.{Value}
 use Rattle.rules.specs.declared.Value.the-variants.{Number}
@@ -23,7 +23,7 @@ use borrow.Author.Tests.{ltb-true, lt-ltb, le-leb}
 use Rattle.rules.specs.Tests.{false-true, by-test}
 use Rattle.laws.specs.Same.{trans, reflexive, same-kind, same-targets}
 
--- a rule gives something of which P holds, or fails a check
+-- A rule gives something of which P holds, or fails a check.
 pub data Ok {X : Type 0} (P : X → Type 0) : Ruled X → Type 0 where
   holds : {x : X} → P x → Ok P (gives x)
   checkFails : {c : Check} → Ok P (fails c)
@@ -41,7 +41,7 @@ ok-must : {X : Type 0} {P : X → Type 0} {x : Ruled X} (c : Check) (b : Bool) �
 ok-must c true h = h refl
 ok-must c false h = checkFails
 
--- types fall
+-- Types fall.
 pub record Falls (r : Routine) : Type 0 where
   pub by : (t : ℕ) → t < r .types → r .target (suc t) ≤ t
 
@@ -70,7 +70,7 @@ module _ {r : Routine} {m : List ℕ} {hs : List Home} {t u : ℕ} (e : same r m
       inr (record { home = y .home; owned = record { real = o .real; mild = o .mild; elements = trans r m _ t u (o .elements) e }; inside = y .inside })
 
 module _ (r : Routine) (m : List ℕ) (hs : List Home) where
-  -- a home that a pointer of this kind, with this target, may reach
+  -- A home that a pointer of this kind, with this target, may reach.
   pub data Owns : Kind → ℕ → ℕ → Type 0 where
     safely : {t g : ℕ} → Typed r m hs t g → Owns SAFE t g
     sequently : {t g : ℕ} → Typed r m hs t g → Owns SEQ t g
@@ -84,19 +84,19 @@ module _ (r : Routine) (m : List ℕ) (hs : List Home) where
 module _ {r : Routine} {m : List ℕ} {w : State} (ok : ValidState r m w) where
   -- ---- conversion
 
-  -- an address in a home is below 4,097
+  -- An address in a home is below 4,097.
   pub small-address : {t a : ℕ} → (a ≡ 0) ⊎ Points r m (w .homes) t a → a < width
   small-address (inl z) = rw z (lit< tt)
   small-address (inr y) = omega (arith, ok .laid .few, ok .laid .high (y .owned .real), y .inside .to)
 
-  -- an offset inside a home is at its address, with no wrap
+  -- An offset inside a home is at its address, with no wrap.
   address-in : {g n : ℕ} → Real (w .homes) g → n < homeAt (w .homes) g .size → In (homeAt (w .homes) g) ((homeAt (w .homes) g .start + n) % width)
   address-in {g} {n} y h =
       let e : (homeAt (w .homes) g .start + n) % width ≡ homeAt (w .homes) g .start + n
       = mod-eq-of-lt (omega (arith, ok .laid .few, ok .laid .high y)) in
       rw e (record { from = omega arith; to = omega arith })
 
-  -- only offset 0 of home 0 is inside, and its address is 0
+  -- Only offset 0 of home 0 is inside, and its address is 0.
   pub null-address : {g n : ℕ} → g ≡ 0 → n < homeAt (w .homes) g .size → (homeAt (w .homes) g .start + n) % width ≡ 0
   null-address {g} {n} e h =
       let a : homeAt (w .homes) g .start ≡ 0 = rw e (ok .laid .nowhere) in
@@ -104,7 +104,7 @@ module _ {r : Routine} {m : List ℕ} {w : State} (ok : ValidState r m w) where
       let c : n ≡ 0 = omega arith in
       rw (a, c)
 
-  -- SEQ to SAFE, past its check
+  -- SEQ to SAFE, past its check.
   narrowed : {t g n : ℕ} → (g ≡ 0) ⊎ Typed r m (w .homes) t g → n < homeAt (w .homes) g .size
       → ((homeAt (w .homes) g .start + n) % width ≡ 0) ⊎ Points r m (w .homes) t ((homeAt (w .homes) g .start + n) % width)
   narrowed (inl e) l = inl (null-address e l)

@@ -22,7 +22,7 @@ use Rattle.reader.specs.Steps.{exprFields, commandFields}
 pub both-as : (a : Bool) {b b′ r : Bool} → r ≡ (a && b) → b ≡ b′ → r ≡ (a && b′)
 both-as a h e = rw (h, e)
 
--- both sides of a test, as they are known
+-- Both sides of a test, as they are known.
 pub both-both : {a b a′ b′ r : Bool} → r ≡ (a && b) → a ≡ a′ → b ≡ b′ → r ≡ (a′ && b′)
 both-both h d e = rw (h, d, e)
 
@@ -33,11 +33,11 @@ and-true false = refl
 -- ---- the fields of a row, by its tag
 
 module _ (tag a b types homes i : ℕ) where
-  -- a tag that the code tells apart
+  -- A tag that the code tells apart.
   pub expr-tag : (k : ℕ) (r : Bool) → tag ≡ k → r ≡ exprFields k a b types homes i → r ≡ exprFields tag a b types homes i
   expr-tag k r e g = rw e g
 
-  -- a row of which no field is spare
+  -- A row of which no field is spare.
   as-row : (x : Expr) → exprSpare tag a b ≡ true → exprOf tag a b ≡ x → exprFields tag a b types homes i ≡ exprGood types homes i x
   as-row x p e = ap (λ y. y && exprGood types homes i (exprOf tag a b)) p ∙ ap (λ y. exprGood types homes i y) e
 
@@ -62,7 +62,7 @@ module _ (tag a b types homes i : ℕ) where
           let n : tag ≤ 24 = omega arith in
           rw (le-leb 16 tag l, le-leb tag 24 n) (sym (as-row _ (expr-no-spare tag a b h) (expr-op tag a b l m)))
 
-  -- the tags that it does not: an operator's, or none
+  -- The tags that it does not: an operator's, or none.
   pub expr-rest : (tag ≡ 0 → ⊥) → (tag ≡ 1 → ⊥) → (tag ≡ 3 → ⊥) → (tag ≡ 4 → ⊥) → (tag ≡ 5 → ⊥) → (tag ≡ 6 → ⊥)
       → (inRange 16 tag 24 && (ltb a i && ltb b i)) ≡ exprFields tag a b types homes i
   expr-rest z o t f v x = elim (decLe 7 tag) [ yes k ↦ operators k | no k ↦ two (omega arith) ]
@@ -107,7 +107,7 @@ module _ (s : List ℕ) (q : ℕ) where
   unfolding rowGood
   command-row E i d e f g h = h ∙ same (λ u v w x. commandFields u v w x E i) d e f g
 
--- the same for the section that a match took apart
+-- The same for the section that a match took apart.
 pub row-of : (s : List ℕ) (c c′ : Section) (i q : ℕ) (r : Bool) → c ≡ c′ → r ≡ rowGood s c′ i q → r ≡ rowGood s c i q
 row-of s c c′ i q r h g = rw h g
 

@@ -54,7 +54,7 @@ module _ {s : List ℕ} {c : Section} {q n w i at : ℕ} (so-far : RowsSoFar s c
   }
 
   module _ (less : i < n) where
-    -- one row off the front
+    -- One row off the front.
     one-row : (go : Unit {0} → Verdict Starts) → rows s c q i (n - i) go ≡ rowRead s c q i λ _. rows s c q (i + 1) (n - (i + 1)) go
     unfolding rows
     one-row go = let e : n - i ≡ suc (n - (i + 1)) = omega arith in rw (e, add-one)
@@ -162,7 +162,7 @@ module _ {s : List ℕ} {q n i at before : ℕ} (so-far : CellsSoFar s q n i at 
 
 -- ---- one step after the other
 
--- the reading so far, `all`, goes on behind a section that is passed, and ends with one that is not
+-- The reading so far, `all`, goes on behind a section that is passed, and ends with one that is not.
 pub goes : (s : List ℕ) (c : Section) (q : ℕ) {r : Step} {at n : ℕ} (go : ℕ → ℕ → Verdict Starts) (v : Verdict Starts) → SectionRead s c q r → r ≡ Next at n → v ≡ go at n → v ≡ section s c q go
 goes s c q go v read e h = h ∙ ap (λ x. follow x go) (sym e) ∙ sym (read .means go)
 

@@ -62,7 +62,7 @@ module _ {s : List ℕ} {at : Starts} {n : ℕ} {ty : List ℕ} {e : ℕ} {row :
   pub operator-below : 7 ≤ row .tag → (row .a < e) × (row .b < e)
   operator-below h = both-less (row .a) (row .b) e e (sym (ap (λ x. exprGood (half s (at .types)) (half s (at .homes)) e x) (operator h)) ∙ good)
 
-  -- an earlier row is in the table
+  -- An earlier row is in the table.
   pub in-table : (a : ℕ) → a < e → a < 1024
   in-table a h = omega (arith, typed .file .exprs .few)
 
@@ -103,7 +103,7 @@ module _ {s : List ℕ} {at : Starts} {n : ℕ} {ty : List ℕ} {e : ℕ} {row :
   shaped-tag : (k : ℕ) (v : Bool) → row .tag ≡ k → v ≡ exprShaped (routine s at) (exprOf k (row .a) (row .b)) → v ≡ exprShaped (routine s at) (routine s at .expr e)
   shaped-tag k v h g = shaped-is v (rw h g)
 
-  -- a test on an operand's type, as the table has it
+  -- A test on an operand's type, as the table has it.
   on-types : (f : ℕ → ℕ → Bool) (a b : ℕ) → a < e → b < e → f (getD ty a 0) (getD ty b 0) ≡ f (typeOf (routine s at) a) (typeOf (routine s at) b)
   on-types f a b l m = let p = typed .types a (omega arith) in let q = typed .types b (omega arith) in rw (p, q)
 
@@ -118,7 +118,7 @@ module _ {s : List ℕ} {at : Starts} {n : ℕ} {ty : List ℕ} {e : ℕ} {row :
       let (l, m) = operator-below h in
       shaped-is v (g ∙ on-types (λ x y. eqb x 0 && eqb y 0) (row .a) (row .b) l m ∙ sym (ap (λ x. exprShaped (routine s at) x) (operator h)))
 
-  -- a row of no operand, or a cast
+  -- A row of no operand, or a cast.
   pub shaped-low : row .tag < 5 → true ≡ exprShaped (routine s at) (routine s at .expr e)
   shaped-low h = by-tag (row .tag) refl h
     where
@@ -139,7 +139,7 @@ module _ {s : List ℕ} {at : Starts} {ty : List ℕ} {c : ℕ} {row : CommandRo
   command-good-tag : (k : ℕ) → row .tag ≡ k → commandGood (half s (at .exprs)) c (commandOf k (row .a) (row .b) (row .c)) ≡ true
   command-good-tag k h = rw h at command-good
 
-  -- no tag is past 4
+  -- No tag is past 4.
   known-tag : row .tag < 5
   known-tag = elim (decLe 5 (row .tag)) [
     | yes l ↦ false-true (sym (ap (λ x. commandGood (half s (at .exprs)) c x) (command-none (row .tag) (row .a) (row .b) (row .c) l)) ∙ command-good)
@@ -149,7 +149,7 @@ module _ {s : List ℕ} {at : Starts} {ty : List ℕ} {c : ℕ} {row : CommandRo
   pub store-below : row .tag ≡ 2 → row .a < half s (at .exprs)
   store-below h = both-less (row .a) (row .b) _ _ (command-good-tag 2 h) .0
 
-  -- the tags past a store: a condition
+  -- The tags past a store: a condition.
   test-tag : 3 ≤ row .tag → (X : Type 0) → (row .tag ≡ 3 → X) → (row .tag ≡ 4 → X) → X
   test-tag l X f g = let m = known-tag in elim (decLe 4 (row .tag)) [ yes k ↦ g (omega arith) | no k ↦ f (omega arith) ]
 
@@ -221,7 +221,7 @@ module _ {s : List ℕ} {at : Starts} {before : List ℕ} {n e : ℕ} {ty : List
 
 -- ---- refusal 6: the loop over rows
 
--- which rows are meant
+-- Which rows are meant.
 pub place-is : (at : Starts) (k b : Bool) (i : ℕ) (v : ℕ) → k ≡ b → v ≡ placeOf at b i → v ≡ placeOf at k i
 place-is at k b i v h g = rw h g
 
@@ -265,7 +265,7 @@ module _ {s : List ℕ} {at : Starts} {k : Bool} {n i : ℕ} (so-far : ShapedSoF
 
 -- ---- expressions, then commands
 
--- rows judged, and then what follows
+-- Rows judged, and then what follows.
 module _ (s : List ℕ) (at : Starts) (k : Bool) (go : Unit {0} → Verdict Starts) where
   one-then : (p : ℕ) (b : Bool) (u v : Verdict Starts) → u ≡ unlessRefused v (λ _. go tt) → guard 6 p b (λ _. u) ≡ unlessRefused (guard 6 p b (λ _. v)) (λ _. go tt)
   one-then p true u v h = h
@@ -280,7 +280,7 @@ shape-is : (s : List ℕ) (at : Starts) → shape (routine s at) (λ _. fine at)
 unfolding shape misshapenFrom
 shape-is s at = refl
 
--- what comes after an answer
+-- What comes after an answer.
 halts : (r : ReadAnswer) (go : Starts → Verdict Starts) → tagOf answers.the-type r ≡ 1 → readSays r ≡ unlessRefused (readSays r) go
 halts (WellFormed at) go h = absurd (omega arith)
 halts (Refused m) go h = refl

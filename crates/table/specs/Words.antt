@@ -26,7 +26,7 @@ pub record PackedCommand (w o a b c d : ℕ) : Type 0 where
   pub fourth : w / 72057594037927936 ≡ d
 
 -- ---- an expression's operation: 0 a number, 1 a pair of offset 0; 2 to 4 conversions to int, to a pair, to SAFE;
--- 5 to 7 reads through SAFE, SEQ, DYNAMIC, 8 one of an int through DYNAMIC; 9 a pointer sum; 10 to 18 the operators
+-- 5 to 7 reads through SAFE, SEQ, DYNAMIC, 8 one of an int through DYNAMIC; 9 a pointer sum; 10 to 18 the operators.
 
 abbrev pub homeOp : Kind → ℕ
 homeOp int = 1

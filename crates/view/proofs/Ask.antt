@@ -15,7 +15,7 @@ abbrev stayed : (Q : Question) → Stays (viewed Q .signature .params) (viewed Q
 stayed Q = (stay-none B yes, (stay-none (λ _. usize) yes, tt))
 
 module _ {M : Type 1} (𝓤 : URA M) (H : Heap 𝓤) (A : Atoms 𝓤) (Q : Question) where
-  -- the contract that the proof cites
+  -- The contract that the proof cites.
   abbrev pub Below : Contract 𝓤
   Below = tripleOf 𝓤 H A (plainly Q .signature) (closing 𝓤 H A (plainly Q) (plain-clauses Q 𝓤))
 
@@ -24,7 +24,7 @@ module _ {M : Type 1} (𝓤 : URA M) (H : Heap 𝓤) (A : Atoms 𝓤) (Q : Quest
   abbrev mach : Val
   mach = T′.lowered d
 
-  -- the machine value of the slice
+  -- The machine value of the slice.
   abbrev v : Val
   v = sliceVal (d .bytes .ptr) (length (d .bytes .now))
 
@@ -46,7 +46,7 @@ module _ {M : Type 1} (𝓤 : URA M) (H : Heap 𝓤) (A : Atoms 𝓤) (Q : Quest
   abbrev Own : Fml
   Own = B (κ, tt) .own d (mach ∷ [])
 
-  -- the view's type and laws, and its fields' values
+  -- The view's type and laws, and its fields' values.
   abbrev D : Declared
   D = T.the-type (namedLft 1 0 tt (κ, tt))
 
@@ -56,7 +56,7 @@ module _ {M : Type 1} (𝓤 : URA M) (H : Heap 𝓤) (A : Atoms 𝓤) (Q : Quest
   abbrev vd : Values (D .parts)
   vd = (d .bytes, (d .at, tt))
 
-  -- what the callee is passed
+  -- What the callee is passed.
   abbrev passed : Vals (plainly Q .signature) (κ, tt)
   passed = (v ∷ [], (S′.lowered (d .at) ∷ [], (vint w64 n ∷ [], tt)))
 
@@ -66,17 +66,17 @@ module _ {M : Type 1} (𝓤 : URA M) (H : Heap 𝓤) (A : Atoms 𝓤) (Q : Quest
   asked : ent 𝓤 (onEntry 𝓤 H A (plainly Q .signature) (κ, tt) (q, tt) (d .bytes, (d .at, (n, tt))) passed) (Below 𝓤 H A Q .pre to)
   asked = qed W ((‵ (flft κ q) ⊛ ‵ ftrue) ∷ ‵ (owns (ShrSlice (named 0) κ u8 ∷ S.the-row ∷ usize ∷ []) (d .bytes, (d .at, (n, tt))) passed) ∷ []) ∵ says ! may $ frame ! $ done !
 
-  -- what the view owns gives what the callee asks, and is kept
+  -- What the view owns gives what the callee asks, and is kept.
   apart : ent 𝓤 (onEntry 𝓤 H A (viewed Q .signature) (κ, tt) (q, tt) a vals) (sep 𝓤 (Below 𝓤 H A Q .pre to) (sem 𝓤 H A Own))
   apart =
       qed W ((‵ (flft κ q) ⊛ ‵ ftrue) ∷ ‵ (owns (B (κ, tt) ∷ usize ∷ []) a vals) ∷ []) ∵
       move ! (1 ∷ []) $ fsplit ! $ move ! (1 ∷ []) $ drop ! $ use1 W (‵ Own ⊛ ‵ Own) (LL.copy D (T′.the-copy (namedLft 1 0 tt (κ, tt))) 𝓤 H A W .twice d (mach ∷ [])) $ split ! $
       use1 W (given (mach ∷ [] ≡ mach ∷ []) (‵ (all-own (D .parts) L vd))) (own-open 𝓤 H A W D L vd mach) $ learn ! (λ _. use1 W (‵ (ownAt (D .parts) L 0 (d .bytes)) ⊛ ‵ (rest (D .parts) L 0 vd)) (own-out 𝓤 H A W (D .parts) L 0 vd) $ split ! $
-      -- [what the slice owns; what the starts own; what the view owns; the token]
+      -- [what the slice owns; what the starts own; what the view owns; the token].
       move ! (1 ∷ []) $ drop ! $ nothing ! $ owned ! usize (Is usize) (uint-makes 𝓤 H A W w64) n _ (refl, n-fits) $ fjoin ! $ owned ! S.the-row (Is S.the-row) (LL.makes S.the-type S′.the-plain 𝓤 H A) (d .at) _ is-at $ fjoin ! $ move ! (1 ∷ 0 ∷ []) $ fjoin ! $
       move ! (2 ∷ 0 ∷ []) $ use2 W (raw (Below 𝓤 H A Q .pre to)) asked $ frame ! $ done !)
 
-  -- of the callee's `ensured`, the clause alone: it has no `&mut`, so what is said of last values is dropped
+  -- Of the callee's `ensured`, the clause alone: it has no `&mut`, so what is said of last values is dropped.
   said : (r : Q .R .D) → ent 𝓤 (ensured 𝓤 H A (plainly Q) (plain-clauses Q 𝓤) (κ, tt) (d .bytes, (d .at, (n, tt))) tt r) (fact 𝓤 (r ≡ found))
   said r = exE 𝓤 _ (λ ws. snd∗ 𝓤 (sem 𝓤 H A (lasts (plainly Q) (κ, tt) (d .bytes, (d .at, (n, tt))) ws)) (fact 𝓤 (r ≡ found)))
 
@@ -97,7 +97,7 @@ module _ {M : Type 1} (𝓤 : URA M) (H : Heap 𝓤) (A : Atoms 𝓤) (Q : Quest
         calls-at ! fm (Below 𝓤 H A Q) known to (and-then ! (load ! (from ! (stop !)) (look ! 4 refl)) (and-then ! (load ! (from ! (stop !)) (look ! 2 refl)) (and-then ! (load ! (from ! (stop !)) (look ! 6 refl)) (no-more !)))) (λ u.
         use1 W (later (some (λ (r : Q .R .D). ((‵ (flft κ q) ⊛ ‵ ftrue) ⊛ ‵ (answers Q .own r (u ∷ []))) ⊛ raw (ensured 𝓤 H A (plainly Q) (plain-clauses Q 𝓤) (κ, tt) (d .bytes, (d .at, (n, tt))) tt r)))) (id⊢ 𝓤 _) $ await ! tt $ pick ! (λ r.
         split ! $ move ! (1 ∷ []) $ use1 W (raw (fact 𝓤 (r ≡ found))) (said r) $ heard ! (r ≡ found) (λ e. split ! $ move ! (1 ∷ []) $
-        -- [the result; the token; what the view owns; _4; …; _3; …; _2; …; _1; …; room for _0; …]
+        -- [the result; the token; what the view owns; _4; …; _3; …; _2; …; _1; …; room for _0; …].
         peeks ! (answers Q) (Is (answers Q)) (shows 𝓤 H A (answers Q)) r (u ∷ []) (λ is.
         land ! (from ! (stop !)) (init ! 11 refl (LL.lawful (Q .R) (Q .laws) 𝓤 H A W .typed r _ is .0)) $
         returns ! (look ! 11 refl) $ forget ! 3 refl $ forget ! 5 refl $ forget ! 7 refl $ forget ! 9 refl $ forget ! 11 refl $

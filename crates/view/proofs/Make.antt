@@ -17,7 +17,7 @@ abbrev stayed : (Q : Question) → Stays (plainly Q .signature .params) (plainly
 stayed Q = (stay-none-slice (0 ∷ []) tt (plain (λ _. u8)) yes, (stay-none (λ _. S.the-row) yes, (stay-none (λ _. usize) yes, tt)))
 
 module _ {M : Type 1} (𝓤 : URA M) (H : Heap 𝓤) (A : Atoms 𝓤) (mem : Memory → SProp 𝓤) (run : Routine → Fun 𝓤) where
-  -- the contracts that the proof cites
+  -- The contracts that the proof cites.
   abbrev pub Made : Contract 𝓤
   Made = tripleOf 𝓤 H A made.signature (made.spec 𝓤 H A mem run)
 
@@ -26,7 +26,7 @@ module _ {M : Type 1} (𝓤 : URA M) (H : Heap 𝓤) (A : Atoms 𝓤) (mem : Mem
 
 module _ {M : Type 1} (𝓤 : URA M) (H : Heap 𝓤) (A : Atoms 𝓤) (Q : Question) (W : Given 𝓤 H A) (mem : Memory → SProp 𝓤) (run : Routine → Fun 𝓤) (κ : Lft) (q : Share) (s : RefT (List ℕ)) (d : Starts) (n : ℕ)
     (is-d : Is S.the-row d (S′.lowered d ∷ [])) (n-fits : n < 2 ^ 64) (may : Q .Asked (now s) d n) where
-  -- the machine values of the slice and of the starts
+  -- The machine values of the slice and of the starts.
   abbrev v : Val
   v = sliceVal (s .ptr) (length (s .now))
 
@@ -36,7 +36,7 @@ module _ {M : Type 1} (𝓤 : URA M) (H : Heap 𝓤) (A : Atoms 𝓤) (Q : Quest
   abbrev found : Q .R .D
   found = Q .answer (now s) d n
 
-  -- the view's type as a local of a body has it
+  -- The view's type as a local of a body has it.
   abbrev αᵉ : NamedLft
   αᵉ = record { mir = erased; lft = κ }
 
@@ -55,7 +55,7 @@ module _ {M : Type 1} (𝓤 : URA M) (H : Heap 𝓤) (A : Atoms 𝓤) (Q : Quest
   abbrev Own : Fml
   Own = ShrSlice (named 0) κ u8 .own s (v ∷ [])
 
-  -- the call of `view_of`: what it is passed, what it asks, and what is known of its result
+  -- The call of `view_of`: what it is passed, what it asks, and what is known of its result.
   abbrev to-made : Made 𝓤 H A mem run .Ghost
   to-made = (((κ, tt), (q, tt), tt, (s, (d, tt)), (v ∷ [], (vd ∷ [], tt))), tt)
 
@@ -63,7 +63,7 @@ module _ {M : Type 1} (𝓤 : URA M) (H : Heap 𝓤) (A : Atoms 𝓤) (Q : Quest
   goes-made =
       qed W ((‵ (flft κ q) ⊛ ‵ ftrue) ∷ ‵ (owns (ShrSlice (named 0) κ u8 ∷ S.the-row ∷ usize ∷ []) a vals) ∷ []) ∵
       move ! (1 ∷ []) $ fsplit ! $ use1 W (‵ Own ⊛ ‵ Own) (shr-slice-copy 𝓤 H A W (named 0) κ u8 .twice s (v ∷ [])) $ split ! $
-      -- [what s owns, twice; what the rest owns; the token]
+      -- [what s owns, twice; what the rest owns; the token].
       move ! (2 ∷ []) $ drop ! $ nothing ! $ owned ! S.the-row (Is S.the-row) (LL.makes S.the-type S′.the-plain 𝓤 H A) d _ is-d $ fjoin ! $ move ! (1 ∷ 0 ∷ []) $ fjoin ! $
       move ! (2 ∷ 0 ∷ []) $ use2 W (raw (Made 𝓤 H A mem run .pre to-made)) (qed W ((‵ (flft κ q) ⊛ ‵ ftrue) ∷ ‵ (owns (ShrSlice (named 0) κ u8 ∷ S.the-row ∷ []) (s, (d, tt)) (v ∷ [], (vd ∷ [], tt))) ∷ []) ∵ join ! $ frame ! $ done !) $ frame ! $ done !
 
@@ -73,11 +73,11 @@ module _ {M : Type 1} (𝓤 : URA M) (H : Heap 𝓤) (A : Atoms 𝓤) (Q : Quest
   made-said : (r : View) → ent 𝓤 (ensured 𝓤 H A made.ended (made.clauses 𝓤 H A mem run) (κ, tt) (s, (d, tt)) tt r) (fact 𝓤 (Held r))
   made-said r = exE 𝓤 _ (λ ws. snd∗ 𝓤 (sem 𝓤 H A (lasts made.ended (κ, tt) (s, (d, tt)) ws)) (fact 𝓤 (Held r)))
 
-  -- the view's question, at the view r with the machine value u
+  -- The view's question, at the view r with the machine value u.
   abbrev to-ask : View → Val → Asks 𝓤 H A mem run Q .Ghost
   to-ask r u = (((κ, tt), (q, tt), tt, (r, (n, tt)), (u ∷ [], (vint w64 n ∷ [], tt))), tt)
 
-  -- a view of s and d is asked as they are
+  -- a view of s and d is asked as they are.
   same-asked : (r : View) → Held r → Q .Asked (now (r .bytes)) (r .at) n
   same-asked r e = subst (λ (x : RefT (List ℕ)). Q .Asked (now x) (r .at) n) (sym (e .0)) (subst (λ (y : Starts). Q .Asked (now s) y n) (sym (e .1)) may)
 
@@ -107,14 +107,14 @@ module _ {M : Type 1} (𝓤 : URA M) (H : Heap 𝓤) (A : Atoms 𝓤) (Q : Quest
         calls-at ! fm (Made 𝓤 H A mem run) known-made to-made (and-then ! (load ! (from ! (stop !)) (look ! 8 refl)) (and-then ! (load ! (from ! (stop !)) (look ! 6 refl)) (no-more !))) (λ u.
         use1 W (later (some (λ (r : View). ((‵ (flft κ q) ⊛ ‵ ftrue) ⊛ ‵ (B (κ, tt) .own r (u ∷ []))) ⊛ raw (ensured 𝓤 H A made.ended (made.clauses 𝓤 H A mem run) (κ, tt) (s, (d, tt)) tt r)))) (id⊢ 𝓤 _) $ await ! tt $ pick ! (λ r.
         split ! $ move ! (1 ∷ []) $ use1 W (raw (fact 𝓤 (Held r))) (made-said r) $ heard ! (Held r) (λ e. split ! $ move ! (1 ∷ []) $
-        -- [what the view owns; the token; what s owns; room for _4; …; _3; …; _2; …; _1; …; room for _0; …]
+        -- [what the view owns; the token; what s owns; room for _4; …; _3; …; _2; …; _1; …; room for _0; …].
         peeks ! (B (κ, tt)) (Is (B (κ, tt))) (shows 𝓤 H A (B (κ, tt))) r (u ∷ []) (λ is.
         land ! (from ! (stop !)) (init ! 3 refl (LL.lawful (T.the-type αᵉ) (T′.the-laws αᵉ) 𝓤 H A W .typed r _ is .0)) $
         use2 W (raw (Asks 𝓤 H A mem run Q .pre (to-ask r u))) (goes-ask r u e) $
         calls-at ! fm (Asks 𝓤 H A mem run Q) known-ask (to-ask r u) (and-then ! (load ! (from ! (stop !)) (look ! 2 refl)) (and-then ! (load ! (from ! (stop !)) (look ! 4 refl)) (no-more !))) (λ u′.
         use1 W (later (some (λ (t : Q .R .D). ((‵ (flft κ q) ⊛ ‵ ftrue) ⊛ ‵ (answers Q .own t (u′ ∷ []))) ⊛ raw (ensured 𝓤 H A (viewed Q) (view-clauses Q 𝓤) (κ, tt) (r, (n, tt)) tt t)))) (id⊢ 𝓤 _) $ await ! tt $ pick ! (λ t.
         split ! $ move ! (1 ∷ []) $ use1 W (raw (fact 𝓤 (t ≡ Q .answer (now (r .bytes)) (r .at) n))) (ask-said r t) $ heard ! (t ≡ Q .answer (now (r .bytes)) (r .at) n) (λ e′. split ! $ move ! (1 ∷ []) $
-        -- [the result; the token; what s owns; _4; …; _3; …; _2; …; _1; …; room for _0; …]
+        -- [the result; the token; what s owns; _4; …; _3; …; _2; …; _1; …; room for _0; …].
         peeks ! (answers Q) (Is (answers Q)) (shows 𝓤 H A (answers Q)) t (u′ ∷ []) (λ is′.
         land ! (from ! (stop !)) (init ! 11 refl (LL.lawful (Q .R) (Q .laws) 𝓤 H A W .typed t _ is′ .0)) $
         returns ! (look ! 11 refl) $ forget ! 3 refl $ forget ! 5 refl $ forget ! 7 refl $ forget ! 9 refl $ forget ! 11 refl $

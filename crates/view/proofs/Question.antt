@@ -18,11 +18,11 @@ pub record Question : Type 2 where
   pub Asked : List ℕ → Starts → ℕ → Type 0
   pub answer : List ℕ → Starts → ℕ → R .D
 
--- the view's type, over a signature's lifetimes
+-- The view's type, over a signature's lifetimes.
 abbrev pub B : Lfts 1 → RattleType
 B κs = T.the-row (namedLft 1 0 tt κs)
 
--- `&[u8]` as MIR has it
+-- `&[u8]` as MIR has it.
 abbrev slice : Lifetime → Ty
 slice α = tyStruct (38 ∷ 91 ∷ 93 ∷ []) (tcons (tyRef α imm (tyInt w8)) (tcons (tyInt w64) tnil))
 
@@ -49,7 +49,7 @@ module _ (Q : Question) where
     ensures = λ _ r _. fact 𝓤 (r ≡ Q .answer (now (a .0)) (a .1 .0) (a .1 .1 .0));
   }
 
-  -- the body that makes the view and asks it
+  -- The body that makes the view and asks it.
   abbrev pub makes : Name → Name → Fn
   makes of ask = record {
     lifetimes = 1;
@@ -86,7 +86,7 @@ module _ (Q : Question) where
     ensures = λ _ r _. fact 𝓤 (r ≡ Q .answer (now (a .0 .bytes)) (a .0 .at) (a .1 .0));
   }
 
-  -- the body that takes the view apart and asks the slice
+  -- The body that takes the view apart and asks the slice.
   abbrev pub asks : Name → Fn
   asks f = record {
     lifetimes = 1;

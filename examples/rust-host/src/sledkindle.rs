@@ -18,8 +18,18 @@ struct Ran {
 
 extern "C" {
     fn sledkindle_read(file: *const u8, file_len: usize) -> Answer;
-    fn sledkindle_check(file: *const u8, file_len: usize, marking: *const u8, marking_len: usize) -> Answer;
-    fn sledkindle_infer(file: *const u8, file_len: usize, marking: *mut u8, marking_len: usize) -> Answer;
+    fn sledkindle_check(
+        file: *const u8,
+        file_len: usize,
+        marking: *const u8,
+        marking_len: usize,
+    ) -> Answer;
+    fn sledkindle_infer(
+        file: *const u8,
+        file_len: usize,
+        marking: *mut u8,
+        marking_len: usize,
+    ) -> Answer;
     fn sledkindle_run(
         file: *const u8,
         file_len: usize,
@@ -66,7 +76,10 @@ pub enum Outcome {
 fn refused(answer: Answer) -> Result<(), Refusal> {
     match answer.number {
         0 => Ok(()),
-        number => Err(Refusal { number, place: answer.place }),
+        number => Err(Refusal {
+            number,
+            place: answer.place,
+        }),
     }
 }
 
@@ -84,13 +97,25 @@ pub fn check(file: &[u8], marking: &[u8]) -> Result<(), Refusal> {
 /// The lowest acceptable marking.
 pub fn infer(file: &[u8]) -> Result<Vec<u8>, Refusal> {
     let mut marking = [0u8; 255];
-    refused(unsafe { sledkindle_infer(file.as_ptr(), file.len(), marking.as_mut_ptr(), marking.len()) })?;
+    refused(unsafe {
+        sledkindle_infer(
+            file.as_ptr(),
+            file.len(),
+            marking.as_mut_ptr(),
+            marking.len(),
+        )
+    })?;
     // A well-formed file begins with its number of types, at most 255.
     Ok(marking[..usize::from(file[0])].to_vec())
 }
 
 /// Runs the file in `memory`, and answers how it ended and the units that it spent.
-pub fn run(file: &[u8], marking: &[u8], fuel: u32, memory: &mut [u64]) -> Result<(Outcome, u32), Refusal> {
+pub fn run(
+    file: &[u8],
+    marking: &[u8],
+    fuel: u32,
+    memory: &mut [u64],
+) -> Result<(Outcome, u32), Refusal> {
     let ran = unsafe {
         sledkindle_run(
             file.as_ptr(),
@@ -103,12 +128,18 @@ pub fn run(file: &[u8], marking: &[u8], fuel: u32, memory: &mut [u64]) -> Result
         )
     };
     if ran.number != 0 {
-        return Err(Refusal { number: ran.number, place: ran.place });
+        return Err(Refusal {
+            number: ran.number,
+            place: ran.place,
+        });
     }
     let outcome = match ran.outcome {
         0 => Outcome::Done,
         5 => Outcome::Fuel { place: ran.place },
-        number => Outcome::Check { number, place: ran.place },
+        number => Outcome::Check {
+            number,
+            place: ran.place,
+        },
     };
     Ok((outcome, ran.units))
 }
