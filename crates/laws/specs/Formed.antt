@@ -1,8 +1,8 @@
 -- What refusals 1 to 8 see to, row by row, and the type of a row.
 use mathlib.Core.Bool.{true}
 use Rattle.rules.specs.Basic.{width}
-use Rattle.rules.specs.Table.{Home, total, Expr, Command, Routine, literal, home, cast, null, sum, read, op, skip, seq, store, ifElse, while}
-use Rattle.rules.specs.Shape.{homeAt, rowType, typeOf, typeBelow, exprShaped, commandShaped, isInt, isRef}
+use Rattle.rules.specs.Table.{Home, total, Expr, Command, StartRow, Routine, literal, home, cast, null, sum, read, op, skip, seq, store, ifElse, while}
+use Rattle.rules.specs.Shape.{homeAt, rowType, typeOf, typeBelow, exprShaped, commandShaped, valueShaped, isInt, isRef}
 use Rattle.rules.specs.Kinds.{int, kindOf, kind}
 use Rattle.rules.specs.Valid.{Real}
 use mathlib.Core.Path.{_≡_, refl, ap}
@@ -33,6 +33,12 @@ CommandFits r c (ifElse a b d) = (a < r .exprs) × (b < c) × (d < c)
 CommandFits r c (while a b) = (a < r .exprs) × (b < c)
 CommandFits r c Command.none = ⊥
 
+-- A start row names a cell of a home, and its value is a 32-bit number.
+pub record ValueFits (r : Routine) (x : StartRow) : Type 0 where
+  pub home : Real (r .homes) (x .home)
+  pub cell : x .cell < homeAt (r .homes) (x .home) .size
+  pub value : x .value < width
+
 -- One home after the other.
 pub data Consecutive : ℕ → List Home → Type 0 where
   last : {from : ℕ} → Consecutive from []
@@ -49,6 +55,7 @@ pub record Formed (r : Routine) : Type 0 where
   pub some : 0 < r .commands
   pub exprs : (e : ℕ) → e < r .exprs → Fits r e (r .expr e) × (exprShaped r (r .expr e) ≡ true)
   pub commands : (c : ℕ) → c < r .commands → CommandFits r c (r .command c) × (commandShaped r (r .command c) ≡ true)
+  pub values : (i : ℕ) → i < r .values → ValueFits r (r .value i) × (valueShaped r (r .value i) ≡ true)
 
 pub int-type : (t : ℕ) → isInt t ≡ true → t ≡ 0
 int-type t h = eqb-true t 0 h

@@ -21,7 +21,7 @@ use Rattle.rules.specs.Steps.{Step, entered, Told, quiet, after}
 use Rattle.rules.specs.Memory.{State, cell, put, encode, decode, held, size, address}
 use Rattle.rules.specs.Ruled.{Check, check2, Ruled, gives, fails, stuck, onward, must}
 use Rattle.rules.specs.Values.{convert, homeValue, reachSafe, reach, fetched, load, paired, kept}
-use Rattle.rules.specs.Run.{Stop, Answer, got, stopped, Ran, done, halted, onValue, andThen, ruled, enter, onDone, afterwards, answered, turns, exprRow, evalBelow, commandRow, execBelow, startCells, start, run}
+use Rattle.rules.specs.Run.{Stop, Answer, got, stopped, Ran, done, halted, onValue, andThen, ruled, enter, onDone, afterwards, answered, turns, exprRow, evalBelow, commandRow, execBelow, startCells, givenValue, cleared, given, start, run}
 use Rattle.rules.specs.Calls.{cellCount, running, runnable, reported}
 use Rattle.rules.specs.Tests.{false-true, parts-true, by-test}
 use Rattle.laws.specs.Promises.{Alone, SameRun}
@@ -307,11 +307,22 @@ module _ {r : Routine} (formed : Formed r) where
       go [] s z c a k = false-true k
       go (h ∷ hs) s z c a k = past h hs a s z c (held-cases h hs (suc a) k)
 
+  -- Start values keep states alike.
+  given-agrees : (m a b : List ℕ) → Agree (cellCount r) (over (r .homes) a) (over (r .homes) b)
+      → (n : ℕ) → Agree (cellCount r) (over (r .homes) (given r m n a)) (over (r .homes) (given r m n b))
+  given-agrees m a b same zero = same
+  given-agrees m a b same (suc n) =
+      let x = r .value n in
+      let h = homeAt (r .homes) (x .home) in
+      put-agree (given-agrees m a b same n) (h .start + x .cell) (givenValue (kind m (h .type)) (x .value))
+
   start-agrees : (m lent lent′ : List ℕ) → Agree (cellCount r) (start r m lent) (start r m lent′)
   start-agrees m lent lent′ =
       let cells = startCells r m (drop 1 (r .homes)) in
       let e = length-start r m (drop 1 (r .homes)) in
-      agree reached (take-at cells (drop (length cells) lent) (cellCount r) e ∙ sym (take-at cells (drop (length cells) lent′) (cellCount r) e))
+      given-agrees m (cleared r m lent) (cleared r m lent′)
+      (agree reached (take-at cells (drop (length cells) lent) (cellCount r) e ∙ sym (take-at cells (drop (length cells) lent′) (cellCount r) e)))
+      (r .values)
 
   run-twins : (m lent lent′ : List ℕ) (fuel : ℕ) → Twins (cellCount r) (run r m lent fuel) (run r m lent′ fuel)
   run-twins m lent lent′ fuel = exec-twins r m (suc (r .commands - 1)) (start r m lent) (start r m lent′) (r .commands - 1) fuel (start-agrees m lent lent′)

@@ -14,12 +14,14 @@ pub mod Known
 pub mod Formed
 pub mod Read
 pub mod Front
--- Runs: values, stores, steps, soundness, the starting memory, units, prefixes, lent memory.
+-- Runs: values, stores, steps, soundness, the starting memory and its start values, units, prefixes, lent memory.
 pub mod Values
 pub mod Store
 pub mod Steps
 pub mod Sound
 pub mod Start
+pub mod Given
+pub mod Stops
 pub mod Units
 pub mod Prefix
 pub mod Lent

@@ -2,7 +2,7 @@
 use mathlib.Core.Path.{_≡_}
 use mathlib.Core.Logic.{_⊎_}
 use mathlib.Core.Bool.{true}
-use Prim.Native.Nat.{ℕ, suc, _+_, _%_, _≤_, _<_}
+use Prim.Native.Nat.{ℕ, suc, _+_, _-_, _%_, _≤_, _<_}
 use mathlib.Core.List.{List, _∷_, _++_}
 use lib.ListN.{length, getD, drop, take, replicate}
 use Rattle.rules.specs.declared.Value.{Value}
@@ -12,19 +12,20 @@ use Rattle.rules.specs.declared.ReadAnswer.{ReadAnswer}
 use Rattle.rules.specs.declared.CheckAnswer.{CheckAnswer}
 use Rattle.rules.specs.declared.InferAnswer.{InferAnswer}
 use Rattle.rules.specs.declared.RunAnswer.{RunAnswer}
-use Rattle.rules.specs.Basic.{byte, width, fine, refused}
-use Rattle.rules.specs.Table.{Routine, routine, null}
+use Rattle.rules.specs.Basic.{byte, half, width, fine, refused, unlessRefused}
+use Rattle.rules.specs.Table.{StartRow, Routine, routine, null}
+use Rattle.rules.specs.Reading.{cells, sections, reading}
 use Rattle.rules.specs.Kinds.{Kind, SAFE, kind, notSafe, sameBelow, same, typeKind, exprKind, commandKind, Acceptable}
-use Rattle.rules.specs.Shape.{homeAt, typeOf, exprShaped, commandShaped}
+use Rattle.rules.specs.Shape.{homeAt, typeOf, exprShaped, commandShaped, valueShaped, shape}
 use Rattle.rules.specs.Least.{Least}
 use Rattle.rules.specs.Steps.{Step, entered, stored, Told, units}
-use Rattle.rules.specs.Memory.{State, replay}
+use Rattle.rules.specs.Memory.{State, cell, replay}
 use Rattle.rules.specs.Ruled.{Check, check2, gives, fails}
 use Rattle.rules.specs.Values.{convert, reach, moved}
-use Rattle.rules.specs.Run.{Stop, noFuel, failed, noRule, Ran, done, halted, start, run}
-use Rattle.rules.specs.Valid.{Real, InHome, Valid, ValidState}
+use Rattle.rules.specs.Run.{Stop, noFuel, failed, noRule, Ran, done, halted, startValue, givenValue, cleared, start, exec, run}
+use Rattle.rules.specs.Valid.{In, Real, InHome, Valid, ValidState}
 use Rattle.rules.specs.Calls.{formed, judged, cellCount, outOfFuel, endingOf, stateOf, Left, Ended, Inferred, checking, running, readSays, checkSays, inferSays, runSays, runnable}
-use Rattle.laws.specs.Formed.{Fits, CommandFits}
+use Rattle.laws.specs.Formed.{Fits, CommandFits, ValueFits}
 use Rattle.laws.specs.Graph.{Meets, Each, demands}
 
 -- ---- words
@@ -105,6 +106,41 @@ pub record Leaves (s m : List ℕ) (fuel : ℕ) (lent : List ℕ) : Type 0 where
 
 abbrev pub Afterwards : Type 0
 Afterwards = (s m : List ℕ) (fuel : ℕ) (lent : List ℕ) → Bytes s → Leaves s m fuel lent
+
+-- ---- the starting memory
+
+-- The address of a start row's cell.
+abbrev pub startAddress : Routine → StartRow → ℕ
+startAddress r x = homeAt (r .homes) (x .home) .start + x .cell
+
+-- The cell of each start row holds its value, and every other cell of a home what its home's kind and its own say.
+pub record Starting (r : Routine) (m : List ℕ) (w : State) : Type 0 where
+  pub given : (i : ℕ) → i < r .values
+      → cell w (startAddress r (r .value i)) ≡ givenValue (kind m (homeAt (r .homes) (r .value i .home) .type)) (r .value i .value)
+  pub others : (g a : ℕ) → Real (r .homes) g → In (homeAt (r .homes) g) a → ((i : ℕ) → i < r .values → a ≡ startAddress r (r .value i) → ⊥)
+      → cell w a ≡ startValue (kind m (homeAt (r .homes) g .type)) (kind m (r .target (homeAt (r .homes) g .type)))
+
+abbrev pub StartingMemory : Type 0
+StartingMemory = (s m lent : List ℕ) (at : Starts) → Bytes s → formed s ≡ fine at → Starting (routine s at) m (start (routine s at) m lent)
+
+-- A file that stops after its commands keeps its meaning. It is read by its four sections and refusal 5, and earns no 10. It has no start rows:
+-- its starting memory is that of its cells alone, and its run begins there.
+pub record Keeps (s : List ℕ) : Type 0 where
+  pub read : reading s ≡ unlessRefused (sections s) λ at. cells s (at .homes + 2) 0 (half s (at .homes)) λ _. fine at
+  pub shaped : formed s ≡ unlessRefused (reading s) λ at. shape (routine s at) λ _. fine at
+  pub rows : (at : Starts) → sections s ≡ fine at → routine s at .values ≡ 0
+  pub memory : (at : Starts) → sections s ≡ fine at → (m lent : List ℕ)
+      → start (routine s at) m lent ≡ record { homes = routine s at .homes; memory = cleared (routine s at) m lent }
+  pub runs : (at : Starts) → sections s ≡ fine at → (m lent : List ℕ) (fuel : ℕ)
+      → run (routine s at) m lent fuel
+      ≡ exec (routine s at) m (record { homes = routine s at .homes; memory = cleared (routine s at) m lent }) (routine s at .commands - 1) fuel
+
+-- No byte follows the commands, if the file has them all.
+abbrev pub Stops : List ℕ → Type 0
+Stops s = (at : Starts) → sections s ≡ fine at → at .values ≡ length s
+
+abbrev pub StopsAfterCommands : Type 0
+StopsAfterCommands = (s : List ℕ) → Stops s → Keeps s
 
 -- ---- units
 
@@ -209,6 +245,8 @@ pub record Facts (r : Routine) (m : List ℕ) : Type 0 where
   -- An operand comes earlier and is in range, is int or a reference as its row needs, and the row keeps the kind rule.
   pub exprs : (e : ℕ) → e < r .exprs → Fits r e (r .expr e) × (exprShaped r (r .expr e) ≡ true) × (exprKind r m (r .expr e) ≡ true)
   pub commands : (c : ℕ) → c < r .commands → CommandFits r c (r .command c) × (commandShaped r (r .command c) ≡ true) × (commandKind r m (r .command c) ≡ true)
+  -- A start row names an int cell of a home.
+  pub values : (i : ℕ) → i < r .values → ValueFits r (r .value i) × (valueShaped r (r .value i) ≡ true)
   -- A null has a reference type.
   pub nulls : (e t : ℕ) → e < r .exprs → r .expr e ≡ null t → 0 < t
   -- The type of a row is one that there is.
@@ -230,9 +268,9 @@ pub record Lossless : Type 0 where
 
 -- ---- reading
 
--- The first 13,063 bytes decide what is read,
+-- The first 15,113 bytes decide what is read,
 abbrev pub FirstBytes : Type 0
-FirstBytes = (s : List ℕ) → formed s ≡ formed (take 13063 s)
+FirstBytes = (s : List ℕ) → formed s ≡ formed (take 15113 s)
 
 -- And with it what each call answers, and each lent entry afterwards.
 pub record SameCalls (s z : List ℕ) : Type 0 where
@@ -241,4 +279,4 @@ pub record SameCalls (s z : List ℕ) : Type 0 where
   pub runs : (m : List ℕ) (fuel : ℕ) (lent : List ℕ) → running s m fuel lent ≡ running z m fuel lent
 
 abbrev pub FirstBytesDecide : Type 0
-FirstBytesDecide = (s : List ℕ) → SameCalls s (take 13063 s)
+FirstBytesDecide = (s : List ℕ) → SameCalls s (take 15113 s)

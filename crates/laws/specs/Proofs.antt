@@ -1,4 +1,5 @@
--- The promises, proved. `FirstBytes` and `FirstBytesDecide` are proved in `Front`, `Alone` in `Lent`, `Lossless` in `Answers`.
+-- The promises, proved. `FirstBytes` and `FirstBytesDecide` are proved in `Front`, `StartingMemory` in `Given`, `StopsAfterCommands` in `Stops`, `Alone` in
+-- `Lent`, `Lossless` in `Answers`.
 use mathlib.Core.Bool.{Bool, true, false}
 use Rattle.rules.specs.declared.Value.{Value}
 use Rattle.rules.specs.declared.Value.the-variants.{Number, Pair}
@@ -12,11 +13,12 @@ use Rattle.rules.specs.Calls.{formed, judged, cellCount, outOfFuel, endingOf, s
 use Rattle.rules.specs.Memory.{State, put, replay, encode}
 use Rattle.rules.specs.Ruled.{Check, check1, check2, check3, gives, fails}
 use Rattle.rules.specs.Values.{convert, reach}
-use Rattle.rules.specs.Run.{noFuel, failed, noRule, Ran, done, halted, startCells, start, run}
+use Rattle.rules.specs.Run.{noFuel, failed, noRule, Ran, done, halted, startCells, cleared, start, run}
 use Rattle.rules.specs.Valid.{InHome, Laid, ValidState}
 use mathlib.Core.Path.{_≡_, refl, sym, ap, _∙_}
 use mathlib.Core.Logic.{_⊎_, inl, inr}
 use Prim.Native.Nat.{ℕ, suc, _+_, _-_}
+use native.Mathlib.Nat.{le-refl}
 use native.Mathlib.Omega.{arith}
 use mathlib.Core.List.{List, [], _∷_, _++_, append-nil}
 use lib.ListN.{length, drop}
@@ -32,7 +34,7 @@ use Rattle.laws.specs.Formed.{Formed, type-le}
 use Rattle.laws.specs.Sound.{exec-ok}
 use Rattle.laws.specs.Units.{exec-spends}
 use Rattle.laws.specs.Prefix.{exec-longer}
-use Rattle.laws.specs.Start.{length-start, start-laid, start-ok}
+use Rattle.laws.specs.Start.{length-start, start-laid, start-ok, given-past}
 use Rattle.laws.specs.Known.{unrefused, formed-known}
 use Rattle.laws.specs.Read.{null-ref, formed-fine, judged-fine, acceptable-judged}
 use Rattle.laws.specs.Same.{reflexive, symmetric, trans, same-kind, same-bound}
@@ -102,7 +104,7 @@ surplus s m lent fuel at b j =
     let (f, k) = accepted b j in
     let n = total (drop 1 (routine s at .homes)) in
     let x = exec-ok f k (r .commands - 1) fuel (omega (arith, f .some)) (start-ok r m f lent) in
-    past n (start-laid r m f lent) (x .steps) ∙ from-lent n (startCells r m (drop 1 (r .homes))) (length-start r m (drop 1 (r .homes)))
+    past n (start-laid r m f lent) (x .steps) ∙ given-past r m f lent (r .values) (cleared r m lent) (le-refl (r .values)) ∙ from-lent n (startCells r m (drop 1 (r .homes))) (length-start r m (drop 1 (r .homes)))
   where
     from-lent : (n : ℕ) (cells : List ℕ) → length cells ≡ n → drop n (cells ++ drop (length cells) lent) ≡ drop n lent
     from-lent n cells e = rw (← e) (drop-append-seam cells (drop (length cells) lent))
@@ -233,6 +235,7 @@ rows s m at b j =
       homes = λ g y. f .homed y;
       exprs = λ e l. (f .exprs e l .0, f .exprs e l .1, a .exprs e l);
       commands = λ c l. (f .commands c l .0, f .commands c l .1, a .commands c l);
+      values = λ i l. f .values i l;
       nulls = λ e t l q. null-ref (formed-known s at (judged-fine s m j .0)) e t l q;
       typed = λ e l. type-le f e l;
       body = f .some;

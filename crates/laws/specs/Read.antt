@@ -20,8 +20,8 @@ use Rattle.rules.specs.Tests.{fine-same, false-true, parts-true, by-test, in-ra
 use Rattle.rules.specs.Tested.{kinds-acceptable, acceptable-kinds}
 use Rattle.laws.specs.Promises.{Bytes}
 use Rattle.laws.specs.WellRead.{WellRead}
-use Rattle.laws.specs.Known.{unrefused, formed-known, formed-shaped}
-use Rattle.laws.specs.Formed.{Fits, CommandFits, Consecutive, last, behind, Formed}
+use Rattle.laws.specs.Known.{unrefused, values-good, formed-known, formed-shaped}
+use Rattle.laws.specs.Formed.{Fits, CommandFits, ValueFits, Consecutive, last, behind, Formed}
 
 -- ---- homes
 
@@ -141,6 +141,25 @@ module _ {s : List ℕ} {at : Starts} (read : WellRead s at) where
       command-fits (routine s at) c (commandAt s q)
       (parts-true (commandSpare (byte s q) (half s (q + 1)) (half s (q + 3)) (half s (q + 5))) _ (read .commands .good c l) .1)
 
+  -- The size of home g is what its row says.
+  home-size : (g : ℕ) → 1 ≤ g → g ≤ half s (at .homes) → homeAt (routine s at .homes) g .size ≡ half s (at .homes + 4 * g)
+  home-size zero h l = absurd (not-suc-le-zero h)
+  home-size (suc g) h l =
+      let e : at .homes + 4 * suc g ≡ at .homes + 2 + 4 * g + 2 = omega arith in
+      rw e (layout-at s (at .homes + 2) 1 _ g l .1)
+
+  pub value-row-fits : Bytes s → (i : ℕ) → i < half s (at .values) → ValueFits (routine s at) (routine s at .value i)
+  unfolding rowGood
+  value-row-fits bytes i l =
+      let q = at .values + 2 + 8 * i in
+      let (a, b) = parts-true (inRange 1 (half s q) (half s (at .homes))) _ (values-good (read .values) i l) in
+      let (c, d) = in-range 1 (half s q) (half s (at .homes)) a in
+      record {
+        home = home-real (half s q) c d;
+        cell = rw (home-size (half s q) c d) (ltb-true _ _ b);
+        value = omega (arith, half-small bytes (q + 4), half-small bytes (q + 4 + 2));
+      }
+
 -- ---- from verdicts
 
 -- A well-formed file stands for a well-formed routine.
@@ -158,6 +177,7 @@ formed-fine {s} {at} bytes h =
       some = rows .commands .least;
       exprs = λ e l. (expr-row-fits rows bytes e l, shaped .exprs e l);
       commands = λ c l. (command-row-fits rows c l, shaped .commands c l);
+      values = λ i l. (value-row-fits rows bytes i l, shaped .values i l);
     }
 
 -- Refusals 7 and 8 leave an acceptable marking, and refuse no other.

@@ -1,25 +1,26 @@
--- The starting memory of a well-formed routine is valid.
+-- The starting memory of a well-formed routine is valid: its cells' own starting values are, and each start value is for its cell.
 use mathlib.Core.Bool.{true, false}
-use Rattle.rules.specs.Table.{Home, Routine, total}
-use Rattle.rules.specs.Shape.{homeAt}
+use Rattle.rules.specs.Basic.{width}
+use Rattle.rules.specs.Table.{Home, StartRow, Routine, total}
+use Rattle.rules.specs.Shape.{homeAt, valueShaped}
 use Rattle.rules.specs.Kinds.{Kind, int, SAFE, SEQ, DYNAMIC, kind, isDynamic}
-use Rattle.rules.specs.Memory.{cell, encode}
+use Rattle.rules.specs.Memory.{State, cell, encode}
 use Rattle.rules.specs.Values.{nullValue}
-use Rattle.rules.specs.Run.{startValue, startCells, start}
-use Rattle.rules.specs.Valid.{In, Real, Laid, ValidAt, wildPair, Valid, Holds, ValidState}
+use Rattle.rules.specs.Run.{startValue, startCells, givenValue, cleared, given, start}
+use Rattle.rules.specs.Valid.{In, Real, Laid, ValidAt, number, wildPair, Valid, Holds, ValidState}
 use mathlib.Core.Path.{_≡_, refl, sym, ap, _∙_}
 use mathlib.Core.Logic.{inl}
 use Prim.Native.Nat.{ℕ, zero, suc, _+_, _-_, _≤_, _<_}
-use native.Mathlib.Nat.{not-suc-le-zero}
+use native.Mathlib.Nat.{not-suc-le-zero, le-refl}
 use native.Mathlib.Omega.{arith}
 use mathlib.Core.List.{List, [], _∷_}
 use lib.ListN.{length, getD, drop, replicate, length-append, length-replicate, getD-replicate, List·getD-append}
-use lib.Seq.{getD-append-add}
+use lib.Seq.{getD-append-add, drop-set-lt}
 use lib.Dec.{lit<}
 use Rattle.rules.specs.Tests.{false-true}
 use Rattle.laws.specs.Values.{null-ok}
-use Rattle.laws.specs.Store.{Small, decode-encode}
-use Rattle.laws.specs.Formed.{Consecutive, last, behind, Formed, ref-kind}
+use Rattle.laws.specs.Store.{Small, decode-encode, put-ok}
+use Rattle.laws.specs.Formed.{ValueFits, Consecutive, last, behind, Formed, int-type, ref-kind}
 
 -- ---- homes one after the other, from address `from` on
 
@@ -56,11 +57,17 @@ null-small SAFE = lit< tt
 null-small SEQ = lit< tt
 null-small DYNAMIC = lit< tt
 
-start-small : (s t : Kind) → Small (startValue s t)
-start-small int t = lit< tt
-start-small SAFE t = null-small t
-start-small SEQ t = null-small t
-start-small DYNAMIC t = lit< tt
+blank-small : (s t : Kind) → Small (startValue s t)
+blank-small int t = lit< tt
+blank-small SAFE t = null-small t
+blank-small SEQ t = null-small t
+blank-small DYNAMIC t = lit< tt
+
+pub given-small : (k : Kind) (n : ℕ) → n < width → Small (givenValue k n)
+given-small int n l = l
+given-small SAFE n l = l
+given-small SEQ n l = l
+given-small DYNAMIC n l = l
 
 module _ (r : Routine) (m : List ℕ) where
   abbrev entry : Home → ℕ
@@ -92,21 +99,28 @@ module _ (r : Routine) (m : List ℕ) where
     abbrev hs : List Home
     hs = drop 1 (r .homes)
 
-    start-cell : (g a : ℕ) → 0 < homeAt hs g .size → In (homeAt hs g) a → cell (start r m lent) a ≡ startValue (kind m (homeAt hs g .type)) (kind m (r .target (homeAt hs g .type)))
-    start-cell g a l i =
+    -- The state before the start values.
+    abbrev blank : List ℕ → State
+    blank l = record { homes = r .homes; memory = cleared r m l }
+
+    blank-cell : (g a : ℕ) → 0 < homeAt hs g .size → In (homeAt hs g) a → cell (blank lent) a ≡ startValue (kind m (homeAt hs g .type)) (kind m (r .target (homeAt hs g .type)))
+    blank-cell g a l i =
         let k : a - 1 < length (startCells r m hs) = rw (length-start hs) (omega (arith, i .from, i .to, low g (formed .consecutive) l, high g (formed .consecutive) l)) in
         rw (List·getD-append (startCells r m hs) (drop (length (startCells r m hs)) lent) 0 (a - 1) k, filled g a (formed .consecutive) i)
-        (decode-encode (startValue (kind m (homeAt hs g .type)) (kind m (r .target (homeAt hs g .type)))) (start-small (kind m (homeAt hs g .type)) (kind m (r .target (homeAt hs g .type)))))
+        (decode-encode (startValue (kind m (homeAt hs g .type)) (kind m (r .target (homeAt hs g .type)))) (blank-small (kind m (homeAt hs g .type)) (kind m (r .target (homeAt hs g .type)))))
 
-    start-hold : (g a : ℕ) → Real (r .homes) g → In (homeAt (r .homes) g) a → Holds r m (r .homes) (homeAt (r .homes) g) (cell (start r m lent) a)
-    start-hold zero a y i = absurd (not-suc-le-zero (y .positive))
-    start-hold (suc g) a y i =
-        let t = homeAt (r .homes) (suc g) .type in
+    -- A cell of home g, before the start values.
+    pub blank-at : (g a : ℕ) → Real (r .homes) g → In (homeAt (r .homes) g) a
+        → cell (blank lent) a ≡ startValue (kind m (homeAt (r .homes) g .type)) (kind m (r .target (homeAt (r .homes) g .type)))
+    blank-at zero a y i = absurd (not-suc-le-zero (y .positive))
+    blank-at (suc g) a y i = rw (next (r .homes) g) (blank-cell g a (rw (next (r .homes) g) at (y .exists)) (rw (next (r .homes) g) at i))
+
+    blank-hold : (g a : ℕ) → Real (r .homes) g → In (homeAt (r .homes) g) a → Holds r m (r .homes) (homeAt (r .homes) g) (cell (blank lent) a)
+    blank-hold g a y i =
+        let t = homeAt (r .homes) g .type in
         let n : kind m t ≡ int → ⊥ = ref-kind m t (formed .homed y .0) in
-        let e : cell (start r m lent) a ≡ startValue (kind m t) (kind m (r .target t))
-        = rw (next (r .homes) g) (start-cell g a (rw (next (r .homes) g) at (y .exists)) (rw (next (r .homes) g) at i)) in
         let (p, q) = start-holds (r .homes) (kind m t) (r .target t) n in
-        rw e (record { plain = p; wild = q })
+        rw (blank-at g a y i) (record { plain = p; wild = q })
 
     low′ : (g : ℕ) → Real (r .homes) g → 1 ≤ homeAt (r .homes) g .start
     low′ zero y = absurd (not-suc-le-zero (y .positive))
@@ -133,12 +147,49 @@ module _ (r : Routine) (m : List ℕ) where
           few = formed .few;
         }
 
-    pub start-ok : ValidState r m (start r m lent)
-    start-ok =
+    blank-ok : ValidState r m (blank lent)
+    blank-ok =
         record {
           cells = total hs;
           room = rw (length-append, length-start hs) (omega arith);
           laid = start-laid;
           declared = λ y. (y, refl);
-          holds = λ {g = g} {a = a} y i. start-hold g a y i;
+          holds = λ {g = g} {a = a} y i. blank-hold g a y i;
         }
+
+    -- ---- the start values
+
+    -- A start row's address lies in its home.
+    pub row-in : (x : StartRow) → ValueFits r x → In (homeAt (r .homes) (x .home)) (homeAt (r .homes) (x .home) .start + x .cell)
+    row-in x f = record { from = omega arith; to = omega (arith, f .cell) }
+
+    -- In an int cell any number is valid; in a DYNAMIC home, a pair of home 0.
+    given-holds : (k : Kind) (t n : ℕ) → t ≡ 0 → n < width
+        → (isDynamic k ≡ false → Valid r m (r .homes) t (givenValue k n)) × (isDynamic k ≡ true → ValidAt r m (r .homes) DYNAMIC 0 (givenValue k n))
+    given-holds int t n e l = (λ _. rw e (number l), λ d. false-true d)
+    given-holds SAFE t n e l = (λ _. rw e (number l), λ d. false-true d)
+    given-holds SEQ t n e l = (λ _. rw e (number l), λ d. false-true d)
+    given-holds DYNAMIC t n e l = (λ d. false-true (sym d), λ _. wildPair (inl refl) l)
+
+    pub given-ok : (n : ℕ) → n ≤ r .values → ValidState r m (record { homes = r .homes; memory = given r m n (cleared r m lent) })
+    given-ok zero l = blank-ok
+    given-ok (suc n) l =
+        let x = r .value n in
+        let h = homeAt (r .homes) (x .home) in
+        let (f, shaped) = formed .values n l in
+        let (p, q) = given-holds (kind m (h .type)) (r .target (h .type)) (x .value) (int-type (r .target (h .type)) shaped) (f .value) in
+        put-ok (given-ok n (omega arith)) (x .home) (h .start + x .cell) (givenValue (kind m (h .type)) (x .value)) (f .home) (row-in x f) (record { plain = p; wild = q })
+
+    pub start-ok : ValidState r m (start r m lent)
+    start-ok = given-ok (r .values) (le-refl (r .values))
+
+    -- Entries past the cells stay as they were.
+    pub given-past : (n : ℕ) (l : List ℕ) → n ≤ r .values → drop (total hs) (given r m n l) ≡ drop (total hs) l
+    given-past zero l k = refl
+    given-past (suc n) l k =
+        let x = r .value n in
+        let h = homeAt (r .homes) (x .home) in
+        let (f, shaped) = formed .values n k in
+        let below : h .start + x .cell - 1 < total hs = omega (arith, f .cell, low′ (x .home) (f .home), high′ (x .home) (f .home)) in
+        drop-set-lt (total hs) (given r m n l) (h .start + x .cell - 1) (encode (givenValue (kind m (h .type)) (x .value))) below
+        ∙ given-past n l (omega arith)

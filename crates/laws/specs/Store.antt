@@ -49,10 +49,10 @@ module _ {r : Routine} {m : List ℕ} {w : State} (ok : ValidState r m w) where
       go true e = small (y .wild e)
       go false e = small (y .plain e)
 
-  cell-same : (a : ℕ) (v : Value) → 1 ≤ a → a ≤ length (w .memory) → Small v → cell (put w a v) a ≡ v
+  pub cell-same : (a : ℕ) (v : Value) → 1 ≤ a → a ≤ length (w .memory) → Small v → cell (put w a v) a ≡ v
   cell-same a v h l s = rw (getD-set-same (w .memory) (a - 1) (encode v) 0 (omega arith)) (decode-encode v s)
 
-  cell-other : (a b : ℕ) (v : Value) → 1 ≤ a → 1 ≤ b → (b ≡ a → ⊥) → cell (put w a v) b ≡ cell w b
+  pub cell-other : (a b : ℕ) (v : Value) → 1 ≤ a → 1 ≤ b → (b ≡ a → ⊥) → cell (put w a v) b ≡ cell w b
   cell-other a b v h l n = ap decode (getD-set-other (w .memory) (a - 1) (b - 1) (encode v) 0 (λ e. n (omega arith)))
 
   pub put-ok : (g a : ℕ) (v : Value) → Real (w .homes) g → In (homeAt (w .homes) g) a → Holds r m (w .homes) (homeAt (w .homes) g) v

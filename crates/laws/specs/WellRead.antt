@@ -6,7 +6,7 @@ use mathlib.Core.List.{List}
 use lib.ListN.{length}
 use Rattle.rules.specs.declared.Starts.{Starts}
 use Rattle.rules.specs.declared.Section.{Section}
-use Rattle.rules.specs.declared.Section.the-variants.{Types, Homes, Exprs, Commands}
+use Rattle.rules.specs.declared.Section.the-variants.{Types, Homes, Exprs, Commands, Values}
 use Rattle.rules.specs.Basic.{half}
 use Rattle.rules.specs.Table.{layout, total}
 use Rattle.rules.specs.Reading.{rowBytes, fewest, most, rowGood}
@@ -18,7 +18,12 @@ pub record Whole (s : List ℕ) (c : Section) (q : ℕ) : Type 0 where
   pub fits : q + 2 + rowBytes c * half s q ≤ length s
   pub good : (i : ℕ) → i < half s q → rowGood s c i (q + 2 + rowBytes c * i) ≡ true
 
--- The four sections, each behind the last, up to the file's end; and the cells of the homes.
+-- Behind the commands, at q, the file ends, or its start values are whole and end it. The homes' count stands at h.
+pub data Fifth (s : List ℕ) (h q : ℕ) : Type 0 where
+  absent : q ≡ length s → Fifth s h q
+  present : Whole s (Values h) q → q + 2 + 8 * half s q ≡ length s → Fifth s h q
+
+-- The sections, each behind the last, up to the file's end; and the cells of the homes.
 pub record WellRead (s : List ℕ) (at : Starts) : Type 0 where
   pub types-at : at .types ≡ 0
   pub types : Whole s Types (at .types)
@@ -28,5 +33,6 @@ pub record WellRead (s : List ℕ) (at : Starts) : Type 0 where
   pub exprs : Whole s (Exprs (half s (at .types)) (half s (at .homes))) (at .exprs)
   pub commands-at : at .commands ≡ at .exprs + 2 + 5 * half s (at .exprs)
   pub commands : Whole s (Commands (half s (at .exprs))) (at .commands)
-  pub ends : at .commands + 2 + 7 * half s (at .commands) ≡ length s
+  pub values-at : at .values ≡ at .commands + 2 + 7 * half s (at .commands)
+  pub values : Fifth s (at .homes) (at .values)
   pub cells : total (layout s (at .homes + 2) 1 (half s (at .homes))) ≤ 4096

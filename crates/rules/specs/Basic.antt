@@ -13,12 +13,15 @@ choose false x y = y tt
 abbrev pub inRange : ℕ → ℕ → ℕ → Bool
 inRange low n high = leb low n && leb n high
 
--- The byte and the 16-bit number at place i (RULES 1.1).
+-- The byte, the 16-bit number and the 32-bit number at place i (RULES 1.1).
 abbrev pub byte : List ℕ → ℕ → ℕ
 byte s i = getD s i 0
 
 abbrev pub half : List ℕ → ℕ → ℕ
 half s i = byte s i + 256 * byte s (i + 1)
+
+abbrev pub word : List ℕ → ℕ → ℕ
+word s i = half s i + 65536 * half s (i + 2)
 
 -- 2 ^ 32
 abbrev pub width : ℕ

@@ -18,7 +18,7 @@ use Rattle.rules.specs.declared.RunAnswer.{RunAnswer}
 use Rattle.rules.specs.declared.RunAnswer.the-variants as runs
 use Rattle.rules.specs.Basic.{Verdict, fine, refused, unlessRefused, guard}
 use Rattle.rules.specs.Table.{Routine, routine, total}
-use Rattle.rules.specs.Reading.{reading}
+use Rattle.rules.specs.Reading.{reading, rising}
 use Rattle.rules.specs.Shape.{shape}
 use Rattle.rules.specs.Kinds.{kinds}
 use Rattle.rules.specs.Least.{Least}
@@ -29,9 +29,9 @@ use Rattle.rules.specs.Run.{Stop, noFuel, failed, noRule, Ran, done, hal
 
 -- ---- judging, in the order of RULES 2.2
 
--- Refusals 1 to 6. A file that earns none is well-formed.
+-- Refusals 1 to 5, 10 and 6. A file that earns none is well-formed.
 unfoldable pub formed : List ℕ → Verdict Starts
-formed s = unlessRefused (reading s) λ at. shape (routine s at) λ _. fine at
+formed s = unlessRefused (reading s) λ at. rising (routine s at) λ _. shape (routine s at) λ _. fine at
 
 -- Then 7 and 8.
 unfoldable pub judged : List ℕ → List ℕ → Verdict Starts

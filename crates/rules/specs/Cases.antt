@@ -12,7 +12,7 @@ use Rattle.rules.specs.declared.Value.{Value}
 use Rattle.rules.specs.declared.Value.the-variants.{Number, Pair}
 use Rattle.rules.specs.Basic.{Verdict, fine, refused}
 use Rattle.rules.specs.Table.{Routine, routine}
-use Rattle.rules.specs.Reading.{rowGood, rows, section, cells, reading}
+use Rattle.rules.specs.Reading.{rowGood, rows, section, cells, sections, fifth, reading, rising}
 use Rattle.rules.specs.Shape.{typeOf, shape}
 use Rattle.rules.specs.Kinds.{same, converts, Acceptable, kinds}
 use Rattle.rules.specs.Least.{Least}
@@ -62,6 +62,10 @@ skip = command 0 0 0 0
 
 abbrev store : ℕ → ℕ → List ℕ
 store a b = command 2 a b 0
+
+-- A start value below 2^16.
+abbrev startRow : ℕ → ℕ → ℕ → List ℕ
+startRow g cell n = half g ++ half cell ++ half n ++ half 0
 
 -- A condition on expression a, between two commands that are the same.
 abbrev ifRow : ℕ → ℕ → List ℕ
@@ -122,6 +126,17 @@ case12 = oneType (literal 5 ∷ literal 0 ∷ expr 19 0 1 ∷ []) (skip ∷ ifRo
 -- Home 1 counts up to n: while its cell is below n, one more is stored in it.
 abbrev counting : ℕ → List ℕ
 counting n = oneType (home 1 ∷ read 0 ∷ literal n ∷ expr 22 1 2 ∷ literal 1 ∷ expr 16 1 4 ∷ []) (store 0 5 ∷ command 4 3 0 0 ∷ [])
+
+-- One more than the number in home 1's first cell is stored there; start values may follow.
+abbrev tray : List ℕ → List ℕ
+tray values = oneType (home 1 ∷ read 0 ∷ literal 1 ∷ expr 16 1 2 ∷ []) (store 0 3 ∷ []) ++ values
+
+abbrev disc : List ℕ
+disc = tray (sect (startRow 1 0 7 ∷ startRow 1 2 9 ∷ []))
+
+-- Home 2's cell is a reference.
+abbrev flagged : List ℕ
+flagged = file (typeRow 0 ∷ typeRow 1 ∷ []) (homeRow 1 3 ∷ homeRow 2 1 ∷ []) [] (skip ∷ []) ++ sect (startRow 1 1 7 ∷ startRow 2 0 7 ∷ [])
 
 -- ---- the table
 
@@ -194,6 +209,21 @@ cases =
     ∷ case case11 (0 ∷ []) false plenty (refused 6 22) asLent
     ∷ case case12 (0 ∷ []) true plenty (fails 4 22 4) zeros
     ∷ case (counting 4) (0 ∷ []) true plenty (ends 49) (three (Number 4) (Number 0) (Number 0))
+    ∷ case (tray []) (0 ∷ []) true plenty (ends 6) (three (Number 1) (Number 0) (Number 0))
+    ∷ case (tray (sect [])) (0 ∷ []) true plenty (ends 6) (three (Number 1) (Number 0) (Number 0))
+    ∷ case disc (0 ∷ []) true plenty (ends 6) (three (Number 8) (Number 0) (Number 9))
+    ∷ case disc (0 ∷ []) true 0 (fine (record { ending = outOfFuel 34; units = 0 })) (three (Number 7) (Number 0) (Number 9))
+    ∷ case disc (1 ∷ []) false plenty (ends 6) (three (Number 8) (Number 0) (Number 9))
+    ∷ case disc (2 ∷ []) false plenty (ends 6) (three (Pair 0 8) (Pair 0 0) (Pair 0 9))
+    ∷ case (tray (0 ∷ [])) (0 ∷ []) false plenty (refused 1 41) asLent
+    ∷ case (tray (half 257)) (0 ∷ []) false plenty (refused 2 41) asLent
+    ∷ case (tray (sect (startRow 0 0 7 ∷ []))) (0 ∷ []) false plenty (refused 3 43) asLent
+    ∷ case (tray (sect (startRow 1 0 7 ∷ startRow 2 0 7 ∷ []))) (0 ∷ []) false plenty (refused 3 51) asLent
+    ∷ case (tray (sect (startRow 1 3 7 ∷ []))) (0 ∷ []) false plenty (refused 3 43) asLent
+    ∷ case (disc ++ 0 ∷ []) (0 ∷ []) false plenty (refused 4 59) asLent
+    ∷ case (tray (sect (startRow 1 2 7 ∷ startRow 1 0 9 ∷ []))) (0 ∷ []) false plenty (refused 10 51) asLent
+    ∷ case (tray (sect (startRow 1 2 7 ∷ startRow 1 2 7 ∷ []))) (0 ∷ []) false plenty (refused 10 51) asLent
+    ∷ case flagged (0 ∷ 0 ∷ []) false plenty (refused 6 37) asLent
     ∷ []
 
 -- ---- least, computed over all markings
@@ -241,15 +271,15 @@ abbrev wantedValues : Case → List (List Value)
 wantedValues c = map (λ (x : Shown). x .value ∷ []) (c .shown)
 
 answers-agree : map given cases ≡ map wanted cases
-unfolding formed judged runnable running rowGood rows section cells reading typeOf shape kinds same converts andThen ruled enter afterwards
+unfolding formed judged runnable running rowGood rows section cells sections fifth reading rising typeOf shape kinds same converts andThen ruled enter afterwards
 answers-agree = refl
 
 values-agree : map (λ (c : Case). rowValues (formed (c .bytes)) c) cases ≡ map wantedValues cases
-unfolding formed rowGood rows section cells reading typeOf shape andThen ruled enter afterwards
+unfolding formed rowGood rows section cells sections fifth reading rising typeOf shape andThen ruled enter afterwards
 values-agree = refl
 
 least-agree : map (λ (c : Case). leastFor (formed (c .bytes)) c) cases ≡ map (λ (c : Case). true) cases
-unfolding formed rowGood rows section cells reading typeOf shape kinds same converts
+unfolding formed rowGood rows section cells sections fifth reading rising typeOf shape kinds same converts
 least-agree = refl
 
 -- ---- what the computed test of least says

@@ -1,14 +1,14 @@
--- Refusals 1 to 5, in reading order (RULES 2.1, 2.2).
+-- Refusals 1 to 5, in reading order, then 10 (RULES 2.1, 2.2).
 use Prim.Native.Nat.{ℕ, zero, suc, _+_, _*_}
-use mathlib.Core.Bool.{Bool, true, false, _&&_}
+use mathlib.Core.Bool.{Bool, true, false, _&&_, _||_}
 use mathlib.Core.List.{List, [], _∷_}
 use lib.ListN.{getD, length}
 use lib.Dec.{ltb, leb, eqb}
 use Rattle.rules.specs.declared.Starts.{Starts}
 use Rattle.rules.specs.declared.Section.{Section}
-use Rattle.rules.specs.declared.Section.the-variants.{Types, Homes, Exprs, Commands}
-use Rattle.rules.specs.Table.{Expr, Command, exprAt, commandAt, literal, home, cast, null, sum, read, op, skip, seq, store, ifElse, while}
-use Rattle.rules.specs.Basic.{byte, half, inRange, Verdict, fine, guard, scan}
+use Rattle.rules.specs.declared.Section.the-variants.{Types, Homes, Exprs, Commands, Values}
+use Rattle.rules.specs.Table.{Expr, Command, StartRow, Routine, exprAt, commandAt, literal, home, cast, null, sum, read, op, skip, seq, store, ifElse, while}
+use Rattle.rules.specs.Basic.{byte, half, choose, inRange, Verdict, fine, unlessRefused, guard, scan, firstBad}
 
 -- ---- the sections (RULES 1.2)
 
@@ -17,18 +17,21 @@ rowBytes Types = 2
 rowBytes (Homes t) = 4
 rowBytes (Exprs t h) = 5
 rowBytes (Commands e) = 7
+rowBytes (Values h) = 8
 
 abbrev pub fewest : Section → ℕ
 fewest Types = 0
 fewest (Homes t) = 0
 fewest (Exprs t h) = 0
 fewest (Commands e) = 1
+fewest (Values h) = 0
 
 abbrev pub most : Section → ℕ
 most Types = 255
 most (Homes t) = 64
 most (Exprs t h) = 1024
 most (Commands e) = 1024
+most (Values h) = 256
 
 -- ---- a row's fields are in range (refusal 3). A row that no tag gives is not.
 
@@ -59,13 +62,14 @@ commandGood E i Command.none = false
 abbrev pub commandSpare : ℕ → ℕ → ℕ → ℕ → Bool
 commandSpare tag a b c = getD ((eqb a 0 && (eqb b 0 && eqb c 0)) ∷ eqb c 0 ∷ eqb c 0 ∷ true ∷ eqb c 0 ∷ []) tag true
 
--- Row i of a section, at place q.
+-- Row i of a section, at place q. The size of home g stands at h + 4 * g, where the homes' count stands at h.
 unfoldable pub rowGood : List ℕ → Section → ℕ → ℕ → Bool
 rowGood s Types i q = leb (half s q) i
 rowGood s (Homes T) i q = inRange 1 (half s q) T && inRange 1 (half s (q + 2)) 1024
 rowGood s (Exprs T H) i q = exprSpare (byte s q) (half s (q + 1)) (half s (q + 3)) && exprGood T H i (exprAt s q)
 rowGood s (Commands E) i q =
     commandSpare (byte s q) (half s (q + 1)) (half s (q + 3)) (half s (q + 5)) && commandGood E i (commandAt s q)
+rowGood s (Values h) i q = inRange 1 (half s q) (half s h) && ltb (half s (q + 2)) (half s (h + 4 * half s q))
 
 -- ---- reading front to back
 
@@ -92,12 +96,39 @@ unfoldable pub cells : {X : Type 0} → List ℕ → ℕ → ℕ → ℕ → (Un
 cells s q before zero go = go tt
 cells s q before (suc n) go = guard 5 q (leb (before + half s (q + 2)) 4096) λ _. cells s (q + 4) (before + half s (q + 2)) n go
 
-unfoldable pub reading : List ℕ → Verdict Starts
-reading s =
+-- The four sections that every file has.
+unfoldable pub sections : List ℕ → Verdict Starts
+sections s =
     section s Types 0 λ h types.
     section s (Homes types) h λ e homes.
     section s (Exprs types homes) e λ c exprs.
-    section s (Commands exprs) c λ end commands.
+    section s (Commands exprs) c λ v commands.
+    fine (record { types = 0; homes = h; exprs = e; commands = c; values = v })
+
+-- The start values are there exactly if a byte follows the commands. It goes on with the place behind them.
+unfoldable pub fifth : {X : Type 0} → List ℕ → Starts → (ℕ → Verdict X) → Verdict X
+fifth s at go =
+    choose (eqb (at .values) (length s))
+    (λ _. go (at .values))
+    (λ _. section s (Values (at .homes)) (at .values) λ end values. go end)
+
+unfoldable pub reading : List ℕ → Verdict Starts
+reading s =
+    unlessRefused (sections s) λ at.
+    fifth s at λ end.
     guard 4 end (eqb end (length s)) λ _.
-    cells s (h + 2) 0 homes λ _.
-    fine (record { types = 0; homes = h; exprs = e; commands = c })
+    cells s (at .homes + 2) 0 (half s (at .homes)) λ _.
+    fine at
+
+-- ---- start rows rise by home, then cell (refusal 10, RULES 1.10)
+
+abbrev pub below : StartRow → StartRow → Bool
+below x y = ltb (x .home) (y .home) || (eqb (x .home) (y .home) && ltb (x .cell) (y .cell))
+
+-- Start row i comes after the row before it.
+abbrev pub rises : Routine → ℕ → Bool
+rises r zero = true
+rises r (suc i) = below (r .value i) (r .value (suc i))
+
+unfoldable pub rising : {X : Type 0} → Routine → (Unit {0} → Verdict X) → Verdict X
+rising r go = firstBad 10 (λ i. rises r i) (r .valuePlace) 0 (r .values) go

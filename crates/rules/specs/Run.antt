@@ -1,7 +1,7 @@
 -- A run: expressions, commands, the starting memory (RULES 6).
-use Prim.Native.Nat.{ℕ, zero, suc, _-_}
+use Prim.Native.Nat.{ℕ, zero, suc, _+_, _-_}
 use mathlib.Core.List.{List, [], _∷_, _++_}
-use lib.ListN.{length, replicate, drop}
+use lib.ListN.{length, replicate, drop, set}
 use Rattle.rules.specs.declared.Value.{Value}
 use Rattle.rules.specs.declared.Value.the-variants.{Number, Pair}
 use Rattle.rules.specs.Basic.{choose}
@@ -148,14 +148,33 @@ startValue SAFE target = nullValue target
 startValue SEQ target = nullValue target
 startValue DYNAMIC target = Pair 0 0
 
+-- What a start row's value is, by the home's kind: a number, or in a DYNAMIC home a pair of home 0.
+abbrev pub givenValue : Kind → ℕ → Value
+givenValue int n = Number n
+givenValue SAFE n = Number n
+givenValue SEQ n = Number n
+givenValue DYNAMIC n = Pair 0 n
+
 module _ (r : Routine) (m : List ℕ) where
   abbrev pub startCells : List Home → List ℕ
   startCells [] = []
   startCells (h ∷ hs) = replicate (h .size) (encode (startValue (kind m (h .type)) (kind m (r .target (h .type))))) ++ startCells hs
 
-  -- The starting memory is written over the lent cells; surplus entries stay.
+  -- The cells' own starting values over the lent entries; surplus entries stay.
+  abbrev pub cleared : List ℕ → List ℕ
+  cleared lent = let cells = startCells (drop 1 (r .homes)) in cells ++ drop (length cells) lent
+
+  -- The values of the first n start rows over these entries.
+  abbrev pub given : ℕ → List ℕ → List ℕ
+  given zero l = l
+  given (suc n) l =
+      let x = r .value n in
+      let h = homeAt (r .homes) (x .home) in
+      set (given n l) (h .start + x .cell - 1) (encode (givenValue (kind m (h .type)) (x .value)))
+
+  -- The starting memory is written over the lent cells.
   abbrev pub start : List ℕ → State
-  start lent = let cells = startCells (drop 1 (r .homes)) in record { homes = r .homes; memory = cells ++ drop (length cells) lent }
+  start lent = record { homes = r .homes; memory = given (r .values) (cleared lent) }
 
   -- The last command is the body.
   abbrev pub run : List ℕ → ℕ → Told Ran

@@ -5,7 +5,7 @@ use mathlib.Core.List.{List}
 use lib.ListN.{getD}
 use lib.Dec.{ltb, eqb}
 use Rattle.rules.specs.Basic.{Verdict, firstBad}
-use Rattle.rules.specs.Table.{Expr, Command, Home, Routine, literal, home, cast, null, sum, read, op, skip, seq, store, ifElse, while}
+use Rattle.rules.specs.Table.{Expr, Command, StartRow, Home, Routine, literal, home, cast, null, sum, read, op, skip, seq, store, ifElse, while}
 
 -- A number that no home has, has no cells.
 abbrev pub noHome : Home
@@ -59,8 +59,13 @@ commandShaped r (ifElse a b c) = isInt (typeOf r a)
 commandShaped r (while a b) = isInt (typeOf r a)
 commandShaped r Command.none = false
 
--- Refusal 6, over expressions, then commands.
+-- RULES 3.3: a start value stands in a cell of int type.
+abbrev pub valueShaped : Routine → StartRow → Bool
+valueShaped r x = isInt (r .target (homeAt (r .homes) (x .home) .type))
+
+-- Refusal 6, over expressions, then commands, then start values.
 unfoldable pub shape : {X : Type 0} → Routine → (Unit {0} → Verdict X) → Verdict X
 shape r go =
     firstBad 6 (λ e. exprShaped r (r .expr e)) (r .exprPlace) 0 (r .exprs) λ _.
-    firstBad 6 (λ c. commandShaped r (r .command c)) (r .commandPlace) 0 (r .commands) go
+    firstBad 6 (λ c. commandShaped r (r .command c)) (r .commandPlace) 0 (r .commands) λ _.
+    firstBad 6 (λ i. valueShaped r (r .value i)) (r .valuePlace) 0 (r .values) go

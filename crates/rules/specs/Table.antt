@@ -4,7 +4,7 @@ use mathlib.Core.List.{List, [], _∷_}
 use lib.ListN.{getD}
 use lib.Dec.{ltb}
 use Rattle.rules.specs.declared.Starts.{Starts}
-use Rattle.rules.specs.Basic.{byte, half, choose}
+use Rattle.rules.specs.Basic.{byte, half, word, choose}
 
 -- RULES 1.6: + - * / % == < & >>
 pub data Operator : Type 0 where
@@ -52,6 +52,15 @@ exprAt s q = exprOf (byte s q) (half s (q + 1)) (half s (q + 3))
 abbrev pub commandAt : List ℕ → ℕ → Command
 commandAt s q = commandOf (byte s q) (half s (q + 1)) (half s (q + 3)) (half s (q + 5))
 
+-- RULES 1.10: a cell of a home, from 0, and the number that it starts as.
+pub record StartRow : Type 0 where
+  pub home : ℕ
+  pub cell : ℕ
+  pub value : ℕ
+
+abbrev pub startRowAt : List ℕ → ℕ → StartRow
+startRowAt s q = record { home = half s q; cell = half s (q + 2); value = word s (q + 4) }
+
 -- RULES 1.4, 5.2
 pub record Home : Type 0 where
   pub type : ℕ
@@ -70,6 +79,9 @@ pub record Routine : Type 0 where
   pub commands : ℕ
   pub command : ℕ → Command
   pub commandPlace : ℕ → ℕ
+  pub values : ℕ
+  pub value : ℕ → StartRow
+  pub valuePlace : ℕ → ℕ
 
 -- n homes whose rows begin at place q, one after the other from address `from` on.
 abbrev pub layout : List ℕ → ℕ → ℕ → ℕ → List Home
@@ -86,7 +98,8 @@ total (h ∷ hs) = h .size + total hs
 abbrev pub nullHome : Home
 nullHome = record { type = 0; start = 0; size = 1 }
 
--- The routine of a file's bytes whose sections start at `at`. Types are numbered from 1.
+-- The routine of a file's bytes whose sections start at `at`. Types are numbered from 1. Past its end a file has bytes 0, so one that stops after
+-- the commands has no start rows.
 abbrev pub routine : List ℕ → Starts → Routine
 routine s at =
     record {
@@ -100,4 +113,7 @@ routine s at =
       commands = half s (at .commands);
       command = λ c. commandAt s (at .commands + 2 + 7 * c);
       commandPlace = λ c. at .commands + 2 + 7 * c;
+      values = half s (at .values);
+      value = λ i. startRowAt s (at .values + 2 + 8 * i);
+      valuePlace = λ i. at .values + 2 + 8 * i;
     }

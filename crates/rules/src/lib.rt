@@ -6,23 +6,25 @@ pub enum Value {
     Pair(u32, u32),
 }
 
-// A section of the file, with the counts that its rows are judged by: types, then homes; expressions.
+// A section of the file, with what its rows are judged by: the counts of types, then homes, and of expressions; the place of the homes' count.
 pub enum Section {
     Types,
     Homes(usize),
     Exprs(usize, usize),
     Commands(usize),
+    Values(usize),
 }
 
-// The places of the four sections' counts.
+// The places of the five sections' counts. `values` is the file's end where it has no start values.
 pub struct Starts {
     pub types: u32,
     pub homes: u32,
     pub exprs: u32,
     pub commands: u32,
+    pub values: u32,
 }
 
-// A refusal's number, 1 to 9, and its place.
+// A refusal's number, 1 to 10, and its place.
 pub struct Refusal {
     pub number: u32,
     pub place: u32,
