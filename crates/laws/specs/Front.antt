@@ -19,8 +19,8 @@ use Rattle.rules.specs.Calls.{formed, judged, checking, Left, inferable, Inferr
 use Rattle.rules.specs.Tested.{refused-fine}
 use Rattle.rules.specs.Tests.{false-true, in-range}
 use Rattle.laws.specs.Promises.{FirstBytes, SameCalls, FirstBytesDecide}
-use Rattle.laws.specs.WellRead.{Fifth, absent, present, WellRead}
-use Rattle.laws.specs.Known.{Four, sections-known, reading-known}
+use Rattle.laws.specs.WellRead.{Four, Fifth, absent, present, WellRead}
+use Rattle.laws.specs.Known.{sections-known, reading-known}
 
 guard-same : {X : Type 0} (n p : ℕ) (b c : Bool) (go go′ : Unit {0} → Verdict X) → b ≡ c → (b ≡ true → go tt ≡ go′ tt) → guard n p b go ≡ guard n p c go′
 guard-same n p true true go go′ e h = h refl

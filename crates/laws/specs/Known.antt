@@ -10,7 +10,7 @@ use lib.Dec.{leb, eqb}
 use borrow.Author.Tests.{leb-true, eqb-true}
 use Rattle.rules.specs.declared.Starts.{Starts}
 use Rattle.rules.specs.declared.Section.{Section}
-use Rattle.rules.specs.declared.Section.the-variants.{Types, Homes, Exprs, Commands, Values}
+use Rattle.rules.specs.declared.Section.the-variants.{Types, Values}
 use Rattle.rules.specs.Basic.{half, choose, inRange, Verdict, fine, refused, guard, unlessRefused}
 use Rattle.rules.specs.Table.{Routine, layout, total, routine}
 use Rattle.rules.specs.Reading.{rowBytes, fewest, most, rowGood, rowRead, rows, section, cells, sections, fifth, reading, rises, rising}
@@ -18,7 +18,7 @@ use Rattle.rules.specs.Shape.{exprShaped, commandShaped, valueShaped, shape}
 use Rattle.rules.specs.Calls.{formed}
 use Rattle.rules.specs.Tested.{refused-fine, passed, scan-fine, none-bad}
 use Rattle.rules.specs.Tests.{in-range, fine-same}
-use Rattle.laws.specs.WellRead.{Whole, Fifth, absent, present, WellRead}
+use Rattle.laws.specs.WellRead.{Whole, Four, Fifth, absent, present, WellRead}
 
 -- ---- refusals 1 to 3: a section
 
@@ -84,7 +84,15 @@ fifth-known s at go x h = by-end (eqb (at .values) (length s)) refl h
 pub none-past : (s : List ℕ) → half s (length s) ≡ 0
 none-past s = omega (arith, List·getD-eq-default s 0 (le-refl (length s)), List·getD-eq-default s 0 {n = length s + 1} (omega arith))
 
+pub none-at : (s : List ℕ) (q : ℕ) → q ≡ length s → 0 ≡ half s q
+none-at s q e = rw (e, none-past s) refl
+
 module _ {s : List ℕ} {h q : ℕ} where
+  -- Where the file goes on at q, the count is whole.
+  pub count-fits : Fifth s h q → (q ≡ length s → ⊥) → q + 2 ≤ length s
+  count-fits (absent e) n = absurd (n e)
+  count-fits (present w e) n = omega (arith, w .fits)
+
   pub values-few : Fifth s h q → half s q ≤ 256
   values-few (absent e) = rw (e, none-past s) zero-le
   values-few (present w e) = w .few
@@ -98,18 +106,6 @@ module _ {s : List ℕ} {h q : ℕ} where
   values-good (present w e) i l = w .good i l
 
 -- ---- the whole
-
--- The four sections that every file has.
-pub record Four (s : List ℕ) (at : Starts) : Type 0 where
-  pub types-at : at .types ≡ 0
-  pub types : Whole s Types (at .types)
-  pub homes-at : at .homes ≡ at .types + 2 + 2 * half s (at .types)
-  pub homes : Whole s (Homes (half s (at .types))) (at .homes)
-  pub exprs-at : at .exprs ≡ at .homes + 2 + 4 * half s (at .homes)
-  pub exprs : Whole s (Exprs (half s (at .types)) (half s (at .homes))) (at .exprs)
-  pub commands-at : at .commands ≡ at .exprs + 2 + 5 * half s (at .exprs)
-  pub commands : Whole s (Commands (half s (at .exprs))) (at .commands)
-  pub values-at : at .values ≡ at .commands + 2 + 7 * half s (at .commands)
 
 pub sections-known : (s : List ℕ) (at : Starts) → sections s ≡ fine at → Four s at
 unfolding sections

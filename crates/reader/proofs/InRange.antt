@@ -1,21 +1,23 @@
 -- Whether a row is in range: what the code's tests say, tag by tag, and the row that they are made of.
 use mathlib.Core.Path.{_≡_, refl, sym, ap, _∙_}
 use mathlib.Core.Bool.{Bool, true, false, _&&_}
-use Prim.Native.Nat.{ℕ, _+_, _≤_, _<_}
+use Prim.Native.Nat.{ℕ, _+_, _*_, _≤_, _<_}
 use native.Mathlib.Decide.{decLe}
 use native.Mathlib.Omega.{arith}
 use mathlib.Core.List.{List}
+use lib.ListN.{length}
 use lib.Dec.{leb, ltb, eqb}
 use borrow.Author.Tests.{le-leb, lt-leb}
 use denote.Enum.Declared.{tagOf}
 use Rattle.rules.proofs.Section as section
 use Rattle.rules.specs.declared.Section.{Section}
-use Rattle.rules.specs.declared.Section.the-variants.{Types, Homes, Exprs, Commands}
+use Rattle.rules.specs.declared.Section.the-variants.{Types, Homes, Exprs, Commands, Values}
 use Rattle.rules.specs.Basic.{byte, half, inRange}
 use Rattle.rules.specs.Table.{Expr, exprOf, commandOf}
 use Rattle.rules.specs.Reading.{rowBytes, exprSpare, exprGood, commandGood, rowGood}
+use Rattle.rules.specs.Tests.{in-range}
 use Rattle.view.specs.Tags.{expr-none, expr-op, expr-over, expr-no-spare, command-none, command-no-spare}
-use Rattle.reader.specs.Steps.{exprFields, commandFields}
+use Rattle.reader.specs.Steps.{Sighted, of-values, exprFields, commandFields}
 
 -- ---- tests
 
@@ -107,6 +109,21 @@ module _ (s : List ℕ) (q : ℕ) where
   unfolding rowGood
   command-row E i d e f g h = h ∙ same (λ u v w x. commandFields u v w x E i) d e f g
 
+  module _ (h : ℕ) {g n : ℕ} {a : Bool} (home : g ≡ half s q) (count : n ≡ half s h) (test : a ≡ inRange 1 g n) where
+    tested : (x : Bool) → a ≡ x → inRange 1 (half s q) (half s h) ≡ x
+    tested x e = rw (← home, ← count) (sym test ∙ e)
+
+    pub value-no-home : a ≡ false → (i : ℕ) → false ≡ rowGood s (Values h) i q
+    unfolding rowGood
+    value-no-home e i = rw (tested false e)
+
+    pub home-there : a ≡ true → g ≤ n
+    home-there e = in-range 1 g n (sym test ∙ e) .1
+
+    pub value-row : {c z : ℕ} → a ≡ true → c ≡ half s (q + 2) → z ≡ half s (h + 4 * g) → (i : ℕ) → ltb c z ≡ rowGood s (Values h) i q
+    unfolding rowGood
+    value-row e x y i = rw (x, y, tested true e, home)
+
 -- The same for the section that a match took apart.
 pub row-of : (s : List ℕ) (c c′ : Section) (i q : ℕ) (r : Bool) → c ≡ c′ → r ≡ rowGood s c′ i q → r ≡ rowGood s c i q
 row-of s c c′ i q r h g = rw h g
@@ -119,3 +136,10 @@ types-of-tag Types h = refl
 types-of-tag (Homes t) h = absurd (omega arith)
 types-of-tag (Exprs t k) h = absurd (omega arith)
 types-of-tag (Commands e) h = absurd (omega arith)
+types-of-tag (Values h) k = absurd (omega arith)
+
+pub homes-seen : (s : List ℕ) (c : Section) {h : ℕ} → c ≡ Values h → Sighted s c → h + 2 + 4 * half s h ≤ length s
+homes-seen s c {h} e x = of (rw e at x)
+  where
+    of : Sighted s (Values h) → h + 2 + 4 * half s h ≤ length s
+    of (of-values l) = l

@@ -13,15 +13,20 @@ use denote.Enum.Declared.{tagOf}
 use Rattle.rules.specs.declared.Starts.{Starts}
 use Rattle.rules.specs.declared.Refusal.{Refusal}
 use Rattle.rules.specs.declared.Section.{Section}
-use Rattle.rules.specs.declared.Section.the-variants.{Types}
-use Rattle.rules.specs.Basic.{half, inRange, Verdict, fine, refused, guard}
-use Rattle.rules.specs.Reading.{rowBytes, fewest, most, rowGood, rowRead, rows, section, cells, reading}
-use Rattle.rules.specs.Calls.{refusal}
+use Rattle.rules.specs.declared.Section.the-variants.{Types, Homes, Exprs, Commands, Values}
+use Rattle.rules.proofs.ReadAnswer as answers
+use Rattle.rules.specs.declared.ReadAnswer.{ReadAnswer}
+use Rattle.rules.specs.declared.ReadAnswer.the-variants.{WellFormed, Refused}
+use Rattle.rules.specs.Basic.{half, inRange, Verdict, fine, refused, unlessRefused, guard}
+use Rattle.rules.specs.Reading.{rowBytes, fewest, most, rowGood, rowRead, rows, section, cells, sections, fifth, reading}
+use Rattle.rules.specs.Calls.{refusal, readSays}
 use Rattle.rules.specs.Tests.{in-range}
 use Rattle.reader.specs.declared.front.Step.{Step}
 use Rattle.reader.specs.declared.front.Step.the-variants.{Next, No}
 use Rattle.reader.proofs.front.Step as step
-use Rattle.reader.specs.Steps.{follow, RowsRead, SectionRead, CellsRead, fromEnd, fromHomes}
+use Rattle.laws.specs.WellRead.{Four}
+use Rattle.laws.specs.Known.{sections-known}
+use Rattle.reader.specs.Steps.{Sighted, of-values, follow, RowsRead, SectionRead, FifthRead, CellsRead, fromEnd, fromValues, fromHomes}
 
 abbrev pub no : ℕ → ℕ → Step
 no k p = No (record { number = k; place = p })
@@ -35,13 +40,13 @@ no-next h e = let z : _≡_ {A = ℕ} 0 1 = cc in absurd (omega arith)
 pub record RowsSoFar (s : List ℕ) (c : Section) (q n w i at : ℕ) : Type 0 where
   pub rest : (go : Unit {0} → Verdict Starts) → rows s c q 0 n go ≡ rows s c q i (n - i) go
   pub width : w ≡ rowBytes c
-  pub narrow : w ≤ 7
+  pub narrow : w ≤ 8
   pub within : i ≤ n
   pub place : at ≡ q + w * i
-  pub near : at ≤ q + 7 * i
+  pub near : at ≤ q + 8 * i
   pub inside : at ≤ length s
 
-pub rows-start : (s : List ℕ) (c : Section) (q n w : ℕ) → w ≡ rowBytes c → w ≤ 7 → q ≤ length s → RowsSoFar s c q n w 0 q
+pub rows-start : (s : List ℕ) (c : Section) (q n w : ℕ) → w ≡ rowBytes c → w ≤ 8 → q ≤ length s → RowsSoFar s c q n w 0 q
 rows-start s c q n w e l h =
     let d : n - 0 ≡ n = omega arith in
     record { rest = λ go. rw d; width = e; narrow = l; within = omega arith; place = omega arith; near = omega arith; inside = h }
@@ -90,10 +95,18 @@ module _ {s : List ℕ} {c : Section} {q n w i at : ℕ} (so-far : RowsSoFar s c
       let f : at ≡ q + rowBytes c * n = rw (← so-far .width, ← e) (so-far .place) in
       record {
         means = λ go. so-far .rest (λ _. go (q + rowBytes c * n) n) ∙ no-rows (λ _. go (q + rowBytes c * n) n) g ∙ ap (λ x. go x n) (sym f);
-        passed = λ at′ m d. let x : at ≡ at′ = cc in let y : n ≡ m = cc in (rw (← x) f, sym y, omega arith, omega arith);
+        passed = λ at′ m d. let x : at ≡ at′ = cc in let y : n ≡ m = cc in (rw (← x) f, sym y, omega arith);
       }
 
 -- ---- a section
+
+-- Its rows have 7 * 1,024 bytes at most.
+section-bytes : (c : Section) (n : ℕ) → n ≤ most c → rowBytes c * n ≤ 7168
+section-bytes Types n l = omega arith
+section-bytes (Homes t) n l = omega arith
+section-bytes (Exprs t h) n l = omega arith
+section-bytes (Commands e) n l = omega arith
+section-bytes (Values h) n l = omega arith
 
 module _ (s : List ℕ) (c : Section) (q : ℕ) where
   pub section-short : (r : Step) → r ≡ no 1 q → length s < q + 2 → SectionRead s c q r
@@ -121,8 +134,8 @@ module _ (s : List ℕ) (c : Section) (q : ℕ) where
         record {
           means = λ go. rw (le-leb (q + 2) (length s) whole, k, ← count) (read .means go);
           passed = λ at m d.
-              let (x, y, u, v) = read .passed at m d in
-              (rw y x, v, omega arith, omega arith);
+              let (x, y, v) = read .passed at m d in
+              (rw y x, v, omega (arith, section-bytes c n (rw limit at l)), omega arith);
         }
 
 -- ---- the cells
@@ -169,24 +182,72 @@ goes s c q go v read e h = h ∙ ap (λ x. follow x go) (sym e) ∙ sym (read .m
 pub halts : (s : List ℕ) (c : Section) (q : ℕ) {r : Step} {m : Refusal} (go : ℕ → ℕ → Verdict Starts) → SectionRead s c q r → r ≡ No m → refusal m ≡ section s c q go
 halts s c q go read e = ap (λ x. follow x go) (sym e) ∙ sym (read .means go)
 
-module _ (s : List ℕ) (h e c end homes : ℕ) where
-  pub spare-bytes : (end ≡ length s → ⊥) → refused 4 end ≡ fromEnd s h e c end homes
-  spare-bytes z = sym (rw (ne-eqb end (length s) z))
+module _ (s : List ℕ) (at : Starts) where
+  -- The start values are none, or a section.
+  pub none-there : at .values ≡ length s → at .values ≤ 30000 → FifthRead s at (Next (at .values) 0)
+  unfolding fifth
+  none-there z l = record { means = λ go. rw (eq-eqb (at .values) (length s) z); near = λ end n d. let x : at .values ≡ end = cc in omega arith }
 
-  module _ (z : end ≡ length s) {r : Step} (read : CellsRead s (h + 2) homes r) where
-    at-end : fromEnd s h e c end homes ≡ follow r (λ _ _. fine (record { types = 0; homes = h; exprs = e; commands = c }))
-    at-end = rw (eq-eqb end (length s) z) (read .means _)
+  pub values-there : {r : Step} → (at .values ≡ length s → ⊥) → at .values ≤ 20000 → SectionRead s (Values (at .homes)) (at .values) r → FifthRead s at r
+  unfolding fifth
+  values-there z l read = record { means = λ go. rw (ne-eqb (at .values) (length s) z) (read .means (λ end n. go end)); near = λ end n d. omega (arith, read .passed end n d) }
 
-    pub cells-halt : {m : Refusal} → r ≡ No m → refusal m ≡ fromEnd s h e c end homes
-    cells-halt k = sym (at-end ∙ ap (λ x. follow x (λ _ _. fine (record { types = 0; homes = h; exprs = e; commands = c }))) k)
+  pub fifth-goes : {r : Step} {end n : ℕ} {v : Verdict Starts} → FifthRead s at r → r ≡ Next end n → v ≡ fromEnd s at end → v ≡ fromValues s at
+  fifth-goes read e h = h ∙ ap (λ x. follow x (λ end _. fromEnd s at end)) (sym e) ∙ sym (read .means (λ end. fromEnd s at end))
 
-    pub all-read : tagOf step.the-type r ≡ 0 → fine (record { types = 0; homes = h; exprs = e; commands = c }) ≡ fromEnd s h e c end homes
-    all-read k = sym (at-end ∙ passes r k)
-      where
-        passes : (r : Step) {v : Verdict Starts} → tagOf step.the-type r ≡ 0 → follow r (λ _ _. v) ≡ v
-        passes (Next at n) k = refl
-        passes (No m) k = absurd (omega arith)
+  pub fifth-halts : {r : Step} {m : Refusal} → FifthRead s at r → r ≡ No m → refusal m ≡ fromValues s at
+  fifth-halts read e = ap (λ x. follow x (λ end _. fromEnd s at end)) (sym e) ∙ sym (read .means (λ end. fromEnd s at end))
 
-pub reading-is : (s : List ℕ) → reading s ≡ section s Types 0 (λ h types. fromHomes s h types)
-unfolding reading
-reading-is s = refl
+  module _ (end : ℕ) where
+    pub spare-bytes : (end ≡ length s → ⊥) → refused 4 end ≡ fromEnd s at end
+    spare-bytes z = sym (rw (ne-eqb end (length s) z))
+
+    module _ (z : end ≡ length s) {n : ℕ} (count : n ≡ half s (at .homes)) {r : Step} (read : CellsRead s (at .homes + 2) n r) where
+      at-end : fromEnd s at end ≡ follow r (λ _ _. fine at)
+      at-end = rw (eq-eqb end (length s) z, ← count) (read .means _)
+
+      pub cells-halt : {m : Refusal} → r ≡ No m → refusal m ≡ fromEnd s at end
+      cells-halt k = sym (at-end ∙ ap (λ x. follow x (λ _ _. fine at)) k)
+
+      pub all-read : tagOf step.the-type r ≡ 0 → fine at ≡ fromEnd s at end
+      all-read k = sym (at-end ∙ passes r k)
+        where
+          passes : (r : Step) {v : Verdict Starts} → tagOf step.the-type r ≡ 0 → follow r (λ _ _. v) ≡ v
+          passes (Next at n) k = refl
+          passes (No m) k = absurd (omega arith)
+
+pub sections-is : (s : List ℕ) → sections s ≡ section s Types 0 (λ h types. fromHomes s h types)
+unfolding sections
+sections-is s = refl
+
+-- ---- the four sections, then what follows
+
+pub four-places : {s : List ℕ} {at : Starts} → Four s at → (at .homes ≤ 512) × (at .values ≤ 13062)
+four-places y =
+    (
+      omega (arith, y .types-at, y .homes-at, y .types .few),
+      omega (arith, y .types-at, y .homes-at, y .exprs-at, y .commands-at, y .values-at, y .types .few, y .homes .few, y .exprs .few, y .commands .few),
+    )
+
+pub homes-sighted : {s : List ℕ} {at : Starts} → Four s at → Sighted s (Values (at .homes))
+homes-sighted y = of-values (y .homes .fits)
+
+module _ (s : List ℕ) (r : ReadAnswer) (read : readSays r ≡ sections s) where
+  pub four-refused : tagOf answers.the-type r ≡ 1 → readSays r ≡ reading s
+  unfolding reading
+  four-refused h = go r h ∙ ap (λ v. unlessRefused v (λ at. fromValues s at)) read
+    where
+      go : (r : ReadAnswer) → tagOf answers.the-type r ≡ 1 → readSays r ≡ unlessRefused (readSays r) (λ at. fromValues s at)
+      go (WellFormed at) h = absurd (omega arith)
+      go (Refused m) h = refl
+
+  module _ {at : Starts} (is : r ≡ WellFormed at) where
+    were-read : sections s ≡ fine at
+    were-read = sym read ∙ ap (λ (x : ReadAnswer). readSays x) is
+
+    pub four-known : Four s at
+    four-known = sections-known s at were-read
+
+    pub four-passed : {v : Verdict Starts} → v ≡ fromValues s at → v ≡ reading s
+    unfolding reading
+    four-passed h = h ∙ sym (ap (λ v. unlessRefused v (λ at. fromValues s at)) were-read)

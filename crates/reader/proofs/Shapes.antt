@@ -1,40 +1,46 @@
--- The table of types and refusal 6 by it: what a row in hand says of its type and of its operands, by its tag, and the loops over rows.
+-- The table of types, and refusals 10 and 6: what a row in hand says of its type and of its operands, by its tag, and the loops over rows.
 use mathlib.Core.Path.{_≡_, refl, sym, ap, _∙_}
-use mathlib.Core.Bool.{Bool, true, false, _&&_}
-use Prim.Native.Nat.{ℕ, zero, suc, _+_, _-_, _≤_, _<_}
+use mathlib.Core.Logic.{inl, inr}
+use mathlib.Core.Bool.{Bool, true, false, _&&_, _||_}
+use Prim.Native.Nat.{ℕ, zero, suc, _+_, _*_, _-_, _≤_, _<_}
 use native.Mathlib.Decide.{decLe}
 use native.Mathlib.Nat.{not-suc-le-zero}
-use native.Mathlib.Numerals.{add-one}
+use native.Mathlib.Numerals.{add-one, sub-one}
 use native.Mathlib.Omega.{arith}
-use mathlib.Core.List.{List}
+use mathlib.Core.List.{List, [], _∷_}
 use lib.ListN.{length, getD, set, length-set}
 use lib.Seq.{getD-set-same, getD-set-other}
 use lib.Dec.{ltb, eqb}
-use borrow.Author.Tests.{ltb-true}
+use borrow.Author.Tests.{ltb-true, le-ltb, eq-eqb, ne-eqb}
 use borrow.Author.Count.{below-more}
 use denote.Enum.Declared.{tagOf}
+use types.Run.{OneOf}
 use Rattle.rules.proofs.ReadAnswer as answers
 use Rattle.rules.specs.declared.Starts.{Starts}
 use Rattle.rules.specs.declared.ReadAnswer.{ReadAnswer}
 use Rattle.rules.specs.declared.ReadAnswer.the-variants.{WellFormed, Refused}
 use Rattle.rules.specs.Basic.{half, Verdict, fine, refused, unlessRefused, guard}
 use Rattle.rules.specs.Table.{Routine, routine, operatorOf, exprOf, commandOf, op}
-use Rattle.rules.specs.Reading.{exprGood, commandGood, reading}
-use Rattle.rules.specs.Shape.{rowType, typeOf, exprShaped, commandShaped, shape}
+use Rattle.rules.specs.Reading.{exprGood, commandGood, reading, rises, rising}
+use Rattle.rules.specs.Shape.{homeAt, rowType, typeOf, exprShaped, commandShaped, valueShaped, shape}
 use Rattle.rules.specs.Calls.{readSays, formed}
 use Rattle.rules.specs.Tested.{refused-fine}
 use Rattle.view.specs.declared.HomeRow.{HomeRow}
 use Rattle.view.specs.declared.TypeRow.{TypeRow}
 use Rattle.view.specs.declared.ExprRow.{ExprRow}
 use Rattle.view.specs.declared.CommandRow.{CommandRow}
+use Rattle.view.specs.declared.ValueRow.{ValueRow}
 use Rattle.rules.specs.Tests.{false-true, parts-true, both-less, in-range, fine-same}
 use Rattle.laws.specs.WellRead.{WellRead}
-use Rattle.laws.specs.Known.{reading-known}
-use Rattle.view.specs.Rows.{homeRow, typeRow, exprRow, commandRow, HomeAsked, TypeAsked}
+use Rattle.laws.specs.Known.{values-few, reading-known}
+use Rattle.view.specs.Rows.{homePlace, homeRow, typeRow, exprRow, commandRow, valueRow, HomeAsked, TypeAsked}
 use Rattle.view.specs.Tags.{expr-good-op, command-none}
-use Rattle.view.specs.Means.{expr-means, command-means, home-has, expr-in-range, command-in-range}
+use Rattle.view.specs.Means.{expr-means, command-means, home-has, home-in-range, expr-in-range, command-in-range, value-in-range}
 use Rattle.view.specs.Typed.{type-by-rule, type-in-range}
-use Rattle.reader.specs.Tables.{TypedTo, TypeTable, countOf, shapedAt, placeOf, misshapenFrom, misshapen, ReadTyped}
+use Rattle.reader.specs.declared.shape.Test.{Test}
+use Rattle.reader.specs.declared.shape.Test.the-variants.{Rising, Exprs, Commands, Values}
+use Rattle.reader.proofs.shape.Test as tests
+use Rattle.reader.specs.Tables.{TypedTo, TypeTable, countOf, passesAt, placeOf, numberOf, judgedFrom, judged, formedBehind, ReadTyped}
 
 -- ---- an expression row in hand, with a table that has the types of those before it
 
@@ -219,66 +225,127 @@ module _ {s : List ℕ} {at : Starts} {before : List ℕ} {n e : ℕ} {ty : List
     stays = λ k d. so-far .stays k (omega arith);
   }
 
--- ---- refusal 6: the loop over rows
+-- ---- start rows
 
--- Which rows are meant.
-pub place-is : (at : Starts) (k b : Bool) (i : ℕ) (v : ℕ) → k ≡ b → v ≡ placeOf at b i → v ≡ placeOf at k i
-place-is at k b i v h g = rw h g
+module _ {s : List ℕ} {at : Starts} (known : WellRead s at) {i : ℕ} (less : i < half s (at .values)) {row : ValueRow} (is : row ≡ valueRow s at i) where
+  -- The home of a start row has a row, and so has its type.
+  pub value-home : HomeAsked s at (row .home)
+  value-home =
+      let e : row .home ≡ half s (at .values + 2 + 8 * i) = ap (λ (x : ValueRow). x .home) is in
+      rw e (record { file = known; first = value-in-range known i less .first; row = value-in-range known i less .last })
 
-pub count-is : (r : Routine) (k b : Bool) (v : ℕ) → k ≡ b → v ≡ countOf r b → v ≡ countOf r k
-count-is r k b v h g = rw h g
+  module _ {home : HomeRow} (named : home ≡ homeRow s at (row .home)) where
+    pub value-type : TypeAsked s at (home .ty)
+    value-type =
+        let asked = value-home in
+        let e : home .ty ≡ half s (homePlace at (row .home)) = ap (λ (x : HomeRow). x .ty) named in
+        record { file = known; row = omega (arith, e, home-in-range s at known (row .home) (asked .first) (asked .row) .0 .1) }
 
-pub meant : (r : Routine) (k b : Bool) (i : ℕ) → k ≡ b → i < countOf r k → i < countOf r b
-meant r k b i h l = rw (← h) l
+    pub value-shaped-is : {type : TypeRow} → type ≡ typeRow s at (home .ty) → eqb (type .target) 0 ≡ valueShaped (routine s at) (routine s at .value i)
+    value-shaped-is {type} e =
+        let asked = value-home in
+        let a : row .home ≡ routine s at .value i .home = ap (λ (x : ValueRow). x .home) is in
+        let b : home .ty ≡ homeAt (routine s at .homes) (row .home) .type
+        = ap (λ (x : HomeRow). x .ty) named ∙ home-has s at (row .home) (asked .first) (asked .row) .type in
+        let c : type .target ≡ routine s at .target (home .ty) = ap (λ (x : TypeRow). x .target) e in
+        rw (c, b, a)
 
-pub shaped-meant : (r : Routine) (k b : Bool) (i : ℕ) (v : Bool) → k ≡ b → v ≡ shapedAt r b i → v ≡ shapedAt r k i
-shaped-meant r k b i v h g = rw h g
+-- One row after the other.
+pub first-rises : (r : Routine) (i : ℕ) → i ≡ 0 → true ≡ rises r i
+first-rises r i e = rw e
 
-pub few-rows : (s : List ℕ) (at : Starts) (k : Bool) → WellRead s at → countOf (routine s at) k ≤ 1024
-few-rows s at false known = known .exprs .few
-few-rows s at true known = known .commands .few
+pub next-rises : (s : List ℕ) (at : Starts) (i : ℕ) {x y : ValueRow} {v : Bool} → (i ≡ 0 → ⊥) → x ≡ valueRow s at (i - 1) → y ≡ valueRow s at i
+    → v ≡ (ltb (x .home) (y .home) || (eqb (x .home) (y .home) && ltb (x .cell) (y .cell))) → v ≡ rises (routine s at) i
+next-rises s at zero n e f g = absurd (n refl)
+next-rises s at (suc i) n e f g = g ∙ rw (e, f, sub-one (suc i))
+
+pub equal-homes : (g h c d : ℕ) → g ≡ h → ltb c d ≡ (ltb g h || (eqb g h && ltb c d))
+equal-homes g h c d e = let l : h ≤ g = omega arith in rw (le-ltb g h l, eq-eqb g h e)
+
+pub other-homes : (g h c d : ℕ) → (g ≡ h → ⊥) → ltb g h ≡ (ltb g h || (eqb g h && ltb c d))
+other-homes g h c d n = rw (ne-eqb g h n) (sym (or-false (ltb g h)))
+  where
+    or-false : (b : Bool) → (b || false) ≡ b
+    or-false true = refl
+    or-false false = refl
+
+-- ---- refusals 10 and 6: the loop over rows
+
+-- Which rows are meant, by the match's tag.
+abbrev testOf : ℕ → Test
+testOf n = getD (Rising ∷ Exprs ∷ Commands ∷ []) n Values
+
+test-of-tag : (k : Test) (n : ℕ) → tagOf tests.the-type k ≡ n → k ≡ testOf n
+test-of-tag Rising n h = rw (← h)
+test-of-tag Exprs n h = rw (← h)
+test-of-tag Commands n h = rw (← h)
+test-of-tag Values n h = rw (← h)
+
+pub meant : {X : Type 0} (f : Test → X) (k : Test) (n : ℕ) {v : X} → tagOf tests.the-type k ≡ n → v ≡ f (testOf n) → v ≡ f k
+meant f k n h g = g ∙ ap f (sym (test-of-tag k n h))
+
+-- Start rows are meant for the first test and the last.
+pub meant-values : {X : Type 0} (f : Test → X) (k : Test) {v : X} → OneOf (0 ∷ 3 ∷ []) (tagOf tests.the-type k) → v ≡ f Rising → v ≡ f Values → v ≡ f k
+meant-values f Rising h g i = g
+meant-values f Exprs (inl h) g i = absurd (omega arith)
+meant-values f Exprs (inr h) g i = absurd (omega arith)
+meant-values f Commands (inl h) g i = absurd (omega arith)
+meant-values f Commands (inr h) g i = absurd (omega arith)
+meant-values f Values h g i = i
+
+pub meant-row : (r : Routine) (k : Test) (n i : ℕ) → tagOf tests.the-type k ≡ n → i < countOf r k → i < countOf r (testOf n)
+meant-row r k n i h l = rw (← test-of-tag k n h) l
+
+pub few-rows : (s : List ℕ) (at : Starts) (k : Test) → WellRead s at → countOf (routine s at) k ≤ 1024
+few-rows s at Rising known = omega (arith, values-few (known .values))
+few-rows s at Exprs known = known .exprs .few
+few-rows s at Commands known = known .commands .few
+few-rows s at Values known = omega (arith, values-few (known .values))
+
+pub places : {s : List ℕ} {at : Starts} → WellRead s at → (at .exprs ≤ 30000) × (at .commands ≤ 30000) × (at .values ≤ 30000)
+places {at = at} y =
+    let v : at .values ≤ 13062
+    = omega (arith, y .types-at, y .homes-at, y .exprs-at, y .commands-at, y .values-at, y .types .few, y .homes .few, y .exprs .few, y .commands .few) in
+    (omega (arith, y .commands-at, y .values-at), omega (arith, y .values-at), omega arith)
 
 -- At row i of n: the rest of the rows is judged as all of them are.
-pub record ShapedSoFar (s : List ℕ) (at : Starts) (k : Bool) (n i : ℕ) : Type 0 where
-  pub rest : misshapen s at k (λ _. fine at) ≡ misshapenFrom s at k i (n - i) (λ _. fine at)
+pub record JudgedSoFar (s : List ℕ) (at : Starts) (k : Test) (n i : ℕ) : Type 0 where
+  pub rest : judged s at k (λ _. fine at) ≡ judgedFrom s at k i (n - i) (λ _. fine at)
   pub count : n ≡ countOf (routine s at) k
   pub within : i ≤ n
 
-pub shaped-start : (s : List ℕ) (at : Starts) (k : Bool) (n : ℕ) → n ≡ countOf (routine s at) k → ShapedSoFar s at k n 0
-shaped-start s at k n count = let e : countOf (routine s at) k ≡ n - 0 = omega arith in record { rest = rw e; count = count; within = omega arith }
+pub judged-start : (s : List ℕ) (at : Starts) (k : Test) (n : ℕ) → n ≡ countOf (routine s at) k → JudgedSoFar s at k n 0
+judged-start s at k n count = let e : countOf (routine s at) k ≡ n - 0 = omega arith in record { rest = rw e; count = count; within = omega arith }
 
-module _ {s : List ℕ} {at : Starts} {k : Bool} {n i : ℕ} (so-far : ShapedSoFar s at k n i) where
+module _ {s : List ℕ} {at : Starts} {k : Test} {n i : ℕ} (so-far : JudgedSoFar s at k n i) where
   module _ (less : i < n) where
-    one-row : misshapenFrom s at k i (n - i) (λ _. fine at) ≡ guard 6 (placeOf at k i) (shapedAt (routine s at) k i) λ _. misshapenFrom s at k (i + 1) (n - (i + 1)) (λ _. fine at)
-    unfolding misshapenFrom
+    one-row : judgedFrom s at k i (n - i) (λ _. fine at) ≡ guard (numberOf k) (placeOf at k i) (passesAt (routine s at) k i) λ _. judgedFrom s at k (i + 1) (n - (i + 1)) (λ _. fine at)
+    unfolding judgedFrom
     one-row = let e : n - i ≡ suc (n - (i + 1)) = omega arith in rw (e, add-one i)
 
-    pub row-misshapen : {p : ℕ} → p ≡ placeOf at k i → shapedAt (routine s at) k i ≡ false → refused 6 p ≡ misshapen s at k (λ _. fine at)
-    row-misshapen h g = ap (λ x. refused 6 x) h ∙ sym (so-far .rest ∙ one-row ∙ rw g)
+    pub row-fails : {m p : ℕ} → m ≡ numberOf k → p ≡ placeOf at k i → passesAt (routine s at) k i ≡ false → refused m p ≡ judged s at k (λ _. fine at)
+    row-fails {p = p} d h g = ap (λ x. refused x p) d ∙ ap (λ x. refused (numberOf k) x) h ∙ sym (so-far .rest ∙ one-row ∙ rw g)
 
-    pub row-shaped : shapedAt (routine s at) k i ≡ true → ShapedSoFar s at k n (i + 1)
-    row-shaped g = record { rest = so-far .rest ∙ one-row ∙ rw g; count = so-far .count; within = omega arith }
+    pub row-passed : passesAt (routine s at) k i ≡ true → JudgedSoFar s at k n (i + 1)
+    row-passed g = record { rest = so-far .rest ∙ one-row ∙ rw g; count = so-far .count; within = omega arith }
 
-  pub all-shaped : n ≤ i → fine at ≡ misshapen s at k (λ _. fine at)
-  unfolding misshapenFrom
-  all-shaped l = let e : n - i ≡ 0 = omega arith in sym (so-far .rest ∙ rw e)
+  pub all-passed : n ≤ i → fine at ≡ judged s at k (λ _. fine at)
+  unfolding judgedFrom
+  all-passed l = let e : n - i ≡ 0 = omega arith in sym (so-far .rest ∙ rw e)
 
--- ---- expressions, then commands
+-- ---- one test after the other
 
 -- Rows judged, and then what follows.
-module _ (s : List ℕ) (at : Starts) (k : Bool) (go : Unit {0} → Verdict Starts) where
-  one-then : (p : ℕ) (b : Bool) (u v : Verdict Starts) → u ≡ unlessRefused v (λ _. go tt) → guard 6 p b (λ _. u) ≡ unlessRefused (guard 6 p b (λ _. v)) (λ _. go tt)
+module _ (s : List ℕ) (at : Starts) (k : Test) (go : Unit {0} → Verdict Starts) where
+  one-then : (p : ℕ) (b : Bool) (u v : Verdict Starts) → u ≡ unlessRefused v (λ _. go tt)
+      → guard (numberOf k) p b (λ _. u) ≡ unlessRefused (guard (numberOf k) p b (λ _. v)) (λ _. go tt)
   one-then p true u v h = h
   one-then p false u v h = refl
 
-  misshapen-then : (i n : ℕ) → misshapenFrom s at k i n go ≡ unlessRefused (misshapenFrom s at k i n (λ _. fine at)) (λ _. go tt)
-  unfolding misshapenFrom
-  misshapen-then i zero = refl
-  misshapen-then i (suc n) = one-then (placeOf at k i) (shapedAt (routine s at) k i) _ _ (misshapen-then (suc i) n)
-
-shape-is : (s : List ℕ) (at : Starts) → shape (routine s at) (λ _. fine at) ≡ misshapen s at false (λ _. misshapen s at true (λ _. fine at))
-unfolding shape misshapenFrom
-shape-is s at = refl
+  judged-then : (i n : ℕ) → judgedFrom s at k i n go ≡ unlessRefused (judgedFrom s at k i n (λ _. fine at)) (λ _. go tt)
+  unfolding judgedFrom
+  judged-then i zero = refl
+  judged-then i (suc n) = one-then (placeOf at k i) (passesAt (routine s at) k i) _ _ (judged-then (suc i) n)
 
 -- What comes after an answer.
 halts : (r : ReadAnswer) (go : Starts → Verdict Starts) → tagOf answers.the-type r ≡ 1 → readSays r ≡ unlessRefused (readSays r) go
@@ -289,29 +356,40 @@ goes : (r : ReadAnswer) (v : Verdict Starts) → tagOf answers.the-type r ≡ 0 
 goes (WellFormed at) v h = refl
 goes (Refused m) v h = absurd (omega arith)
 
-module _ (s : List ℕ) (at : Starts) (r : ReadAnswer) (first : readSays r ≡ misshapen s at false (λ _. fine at)) where
-  shape-then : shape (routine s at) (λ _. fine at) ≡ unlessRefused (readSays r) (λ _. misshapen s at true (λ _. fine at))
-  shape-then =
-      shape-is s at
-      ∙ misshapen-then s at false (λ _. misshapen s at true (λ _. fine at)) 0 (half s (at .exprs))
-      ∙ ap (λ x. unlessRefused x (λ _. misshapen s at true (λ _. fine at))) (sym first)
+module _ (s : List ℕ) (at : Starts) (k : Test) (r : ReadAnswer) (first : readSays r ≡ judged s at k (λ _. fine at)) (go : Unit {0} → Verdict Starts) where
+  then-is : judged s at k go ≡ unlessRefused (readSays r) (λ _. go tt)
+  then-is = judged-then s at k go 0 (countOf (routine s at) k) ∙ ap (λ x. unlessRefused x (λ _. go tt)) (sym first)
 
-  pub exprs-misshapen : tagOf answers.the-type r ≡ 1 → readSays r ≡ shape (routine s at) (λ _. fine at)
-  exprs-misshapen h = halts r _ h ∙ sym shape-then
+  pub test-fails : tagOf answers.the-type r ≡ 1 → readSays r ≡ judged s at k go
+  test-fails h = halts r _ h ∙ sym then-is
 
-  pub exprs-shaped : {v : Verdict Starts} → tagOf answers.the-type r ≡ 0 → v ≡ misshapen s at true (λ _. fine at) → v ≡ shape (routine s at) (λ _. fine at)
-  exprs-shaped h second = second ∙ sym (shape-then ∙ goes r _ h)
+  pub test-passes : {v : Verdict Starts} → tagOf answers.the-type r ≡ 0 → v ≡ go tt → v ≡ judged s at k go
+  test-passes h second = second ∙ sym (then-is ∙ goes r _ h)
+
+-- The tests in order.
+abbrev pub fromValues : List ℕ → Starts → Verdict Starts
+fromValues s at = judged s at Values λ _. fine at
+
+abbrev pub fromCommands : List ℕ → Starts → Verdict Starts
+fromCommands s at = judged s at Commands λ _. fromValues s at
+
+abbrev pub fromExprs : List ℕ → Starts → Verdict Starts
+fromExprs s at = judged s at Exprs λ _. fromCommands s at
+
+pub behind-is : (s : List ℕ) (at : Starts) → judged s at Rising (λ _. fromExprs s at) ≡ formedBehind s at
+unfolding formedBehind rising shape judgedFrom
+behind-is s at = refl
 
 -- ---- the whole
 
-formed-is : (s : List ℕ) → formed s ≡ unlessRefused (reading s) (λ at. shape (routine s at) (λ _. fine at))
-unfolding formed
+formed-is : (s : List ℕ) → formed s ≡ unlessRefused (reading s) (λ at. formedBehind s at)
+unfolding formed formedBehind
 formed-is s = refl
 
 module _ (s : List ℕ) (r : ReadAnswer) (read : readSays r ≡ reading s) where
   pub not-read : {ty : List ℕ} → tagOf answers.the-type r ≡ 1 → ReadTyped s ty ty r
   not-read h = record {
-    answer = halts r _ h ∙ ap (λ x. unlessRefused x (λ at. shape (routine s at) (λ _. fine at))) read ∙ sym (formed-is s);
+    answer = halts r _ h ∙ ap (λ x. unlessRefused x (λ at. formedBehind s at)) read ∙ sym (formed-is s);
     filled = λ at e. not-fine r h (read ∙ e);
     left = λ n p e. refl;
   }
@@ -327,9 +405,9 @@ module _ (s : List ℕ) (r : ReadAnswer) (read : readSays r ≡ reading s) where
     pub now-known : WellRead s at
     now-known = reading-known s at was-read
 
-    pub read-typed : {ty after : List ℕ} {v : ReadAnswer} → TypeTable (routine s at) ty after → readSays v ≡ shape (routine s at) (λ _. fine at) → ReadTyped s ty after v
-    read-typed table judged = record {
-      answer = judged ∙ sym (formed-is s ∙ ap (λ x. unlessRefused x (λ at. shape (routine s at) (λ _. fine at))) was-read);
+    pub read-typed : {ty after : List ℕ} {v : ReadAnswer} → TypeTable (routine s at) ty after → readSays v ≡ formedBehind s at → ReadTyped s ty after v
+    read-typed table shaped = record {
+      answer = shaped ∙ sym (formed-is s ∙ ap (λ x. unlessRefused x (λ at. formedBehind s at)) was-read);
       filled = λ at′ e. let same : at ≡ at′ = fine-same (sym was-read ∙ e) in rw (← same) table;
       left = λ n p e. refused-fine (sym e ∙ was-read);
     }

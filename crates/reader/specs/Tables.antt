@@ -1,6 +1,6 @@
--- What the table of types holds, and refusal 6 by it.
+-- What the table of types holds, and refusals 10 and 6.
 use mathlib.Core.Path.{_≡_}
-use mathlib.Core.Bool.{Bool, true, false}
+use mathlib.Core.Bool.{Bool}
 use Prim.Native.Nat.{ℕ, _+_, _*_, _≤_, _<_}
 use mathlib.Core.List.{List}
 use lib.ListN.{length, getD}
@@ -8,31 +8,49 @@ use Rattle.rules.specs.declared.Starts.{Starts}
 use Rattle.rules.specs.declared.ReadAnswer.{ReadAnswer}
 use Rattle.rules.specs.Basic.{Verdict, fine, refused, firstBad}
 use Rattle.rules.specs.Table.{Routine, routine}
-use Rattle.rules.specs.Reading.{reading}
-use Rattle.rules.specs.Shape.{typeOf, exprShaped, commandShaped}
+use Rattle.rules.specs.Reading.{reading, rises, rising}
+use Rattle.rules.specs.Shape.{typeOf, exprShaped, commandShaped, valueShaped, shape}
 use Rattle.rules.specs.Calls.{readSays, formed}
 use Rattle.laws.specs.WellRead.{WellRead}
+use Rattle.reader.specs.declared.shape.Test.{Test}
+use Rattle.reader.specs.declared.shape.Test.the-variants.{Rising, Exprs, Commands, Values}
 
--- ---- expression rows and command rows as one: `true` is for commands
+-- ---- rows judged for one thing
 
-abbrev pub countOf : Routine → Bool → ℕ
-countOf r false = r .exprs
-countOf r true = r .commands
+abbrev pub countOf : Routine → Test → ℕ
+countOf r Rising = r .values
+countOf r Exprs = r .exprs
+countOf r Commands = r .commands
+countOf r Values = r .values
 
-abbrev pub shapedAt : Routine → Bool → ℕ → Bool
-shapedAt r false e = exprShaped r (r .expr e)
-shapedAt r true c = commandShaped r (r .command c)
+abbrev pub passesAt : Routine → Test → ℕ → Bool
+passesAt r Rising i = rises r i
+passesAt r Exprs e = exprShaped r (r .expr e)
+passesAt r Commands c = commandShaped r (r .command c)
+passesAt r Values i = valueShaped r (r .value i)
 
-abbrev pub placeOf : Starts → Bool → ℕ → ℕ
-placeOf at false e = at .exprs + 2 + 5 * e
-placeOf at true c = at .commands + 2 + 7 * c
+abbrev pub placeOf : Starts → Test → ℕ → ℕ
+placeOf at Rising i = at .values + 2 + 8 * i
+placeOf at Exprs e = at .exprs + 2 + 5 * e
+placeOf at Commands c = at .commands + 2 + 7 * c
+placeOf at Values i = at .values + 2 + 8 * i
 
--- Refusal 6 over n rows, from number i on; over all.
-unfoldable pub misshapenFrom : {X : Type 0} → List ℕ → Starts → Bool → ℕ → ℕ → (Unit {0} → Verdict X) → Verdict X
-misshapenFrom s at k i n go = firstBad 6 (λ j. shapedAt (routine s at) k j) (λ j. placeOf at k j) i n go
+abbrev pub numberOf : Test → ℕ
+numberOf Rising = 10
+numberOf Exprs = 6
+numberOf Commands = 6
+numberOf Values = 6
 
-abbrev pub misshapen : {X : Type 0} → List ℕ → Starts → Bool → (Unit {0} → Verdict X) → Verdict X
-misshapen s at k go = misshapenFrom s at k 0 (countOf (routine s at) k) go
+-- The refusal over n rows, from number i on; over all.
+unfoldable pub judgedFrom : {X : Type 0} → List ℕ → Starts → Test → ℕ → ℕ → (Unit {0} → Verdict X) → Verdict X
+judgedFrom s at k i n go = firstBad (numberOf k) (λ j. passesAt (routine s at) k j) (λ j. placeOf at k j) i n go
+
+abbrev pub judged : {X : Type 0} → List ℕ → Starts → Test → (Unit {0} → Verdict X) → Verdict X
+judged s at k go = judgedFrom s at k 0 (countOf (routine s at) k) go
+
+-- Refusals 10 and 6, which come after 1 to 5.
+unfoldable pub formedBehind : List ℕ → Starts → Verdict Starts
+formedBehind s at = rising (routine s at) λ _. shape (routine s at) λ _. fine at
 
 -- ---- the table
 

@@ -1,5 +1,5 @@
 // The sections front to back: refusals 1 to 4 as they are met, then 5.
-// A section has at most 2 + 7 * 1,024 = 7,170 bytes, so the four start and end within multiples of that, and every place fits.
+// A section has at most 2 + 7 * 1,024 = 7,170 bytes, so the sections start and end within multiples of that, and every place fits.
 use super::range::half_at;
 use super::range::in_range;
 use super::range::row_good;
@@ -11,8 +11,9 @@ ghost use mathlib.Core.Path.{_≡_};
 ghost use Prim.Native.Nat.{_+_, _*_, _≤_};
 ghost use lib.ListN.{length};
 ghost use Rattle.rules.specs.Calls.{readSays};
-ghost use Rattle.rules.specs.Reading.{rowBytes, fewest, most, reading};
-ghost use Rattle.reader.specs.Steps.{RowsRead, SectionRead, CellsRead, fromHomes, fromExprs, fromCommands, fromEnd};
+ghost use Rattle.rules.specs.Reading.{rowBytes, fewest, most, sections, reading};
+ghost use Rattle.laws.specs.WellRead.{Four};
+ghost use Rattle.reader.specs.Steps.{Sighted, RowsRead, SectionRead, FifthRead, CellsRead, fromHomes, fromExprs, fromCommands, fromEnd, fromValues};
 
 // How a part of the reading ends: at the place behind it, with a count of rows; or in a refusal.
 pub enum Step {
@@ -33,13 +34,14 @@ fn no(number: u32, place: usize) -> Step
 
 // The bytes of a row.
 fn bytes_of(part: Section) -> usize
-    ensures { λ r. ⌜ (r ≡ rowBytes part) × (r ≤ 7) ⌝ }
+    ensures { λ r. ⌜ (r ≡ rowBytes part) × (r ≤ 8) ⌝ }
 {
     match part {
         Section::Types => 2,
         Section::Homes(_) => 4,
         Section::Exprs(_, _) => 5,
         Section::Commands(_) => 7,
+        Section::Values(_) => 8,
     }
 }
 
@@ -52,6 +54,7 @@ fn fewest_of(part: Section) -> usize
         Section::Homes(_) => 0,
         Section::Exprs(_, _) => 0,
         Section::Commands(_) => 1,
+        Section::Values(_) => 0,
     }
 }
 
@@ -64,12 +67,13 @@ fn most_of(part: Section) -> usize
         Section::Homes(_) => 64,
         Section::Exprs(_, _) => 1024,
         Section::Commands(_) => 1024,
+        Section::Values(_) => 256,
     }
 }
 
 // The `n` rows of a section, from place `q` on.
 fn rows(s: &[u8], part: Section, q: usize, n: usize) -> Step
-    requires { ⌜ (q ≤ 22000) × (n ≤ 1024) × (q ≤ length (now s)) ⌝ }
+    requires { ⌜ (q ≤ 21512) × (n ≤ 1024) × (q ≤ length (now s)) × Sighted (now s) part ⌝ }
     ensures { λ r. ⌜ RowsRead (now (s .entry)) part q n r ⌝ }
 {
     let w = bytes_of(part);
@@ -90,7 +94,7 @@ fn rows(s: &[u8], part: Section, q: usize, n: usize) -> Step
 
 // The section whose count stands at place `q`.
 fn section(s: &[u8], part: Section, q: usize) -> Step
-    requires { ⌜ q ≤ 21510 ⌝ }
+    requires { ⌜ (q ≤ 21510) × Sighted (now s) part ⌝ }
     ensures { λ r. ⌜ SectionRead (now (s .entry)) part q r ⌝ }
 {
     if s.len() < q + 2 {
@@ -123,46 +127,30 @@ fn cells(s: &[u8], q: usize, n: usize) -> Step
     Step::Next(at, n)
 }
 
-// Behind the commands, at `end`: no spare byte, then the cells.
-fn from_end(s: &[u8], h: usize, e: usize, c: usize, end: usize, homes: usize) -> ReadAnswer
-    requires { ⌜ (h ≤ 7170) × (e ≤ 14340) × (c ≤ 21510) × (end ≤ 28680) × (h + 2 + 4 * homes ≤ length (now s)) × (homes ≤ 1024) ⌝ }
-    ensures { λ r. ⌜ readSays r ≡ fromEnd (now (s .entry)) h e c end homes ⌝ }
+// From the commands' count on, at `c`.
+fn from_commands(s: &[u8], h: usize, e: usize, c: usize, exprs: usize) -> ReadAnswer
+    requires { ⌜ (h ≤ 7170) × (e ≤ 14340) × (c ≤ 21510) ⌝ }
+    ensures { λ r. ⌜ readSays r ≡ fromCommands (now (s .entry)) h e c exprs ⌝ }
 {
-    if end != s.len() {
-        return ReadAnswer::Refused(Refusal {
-            number: 4,
-            place: end as u32,
-        });
-    }
-    match cells(s, h + 2, homes) {
-        Step::Next(_, _) => ReadAnswer::WellFormed(Starts {
+    match section(s, Section::Commands(exprs), c) {
+        Step::Next(v, _) => ReadAnswer::WellFormed(Starts {
             types: 0,
             homes: h as u32,
             exprs: e as u32,
             commands: c as u32,
+            values: v as u32,
         }),
-        Step::No(n) => ReadAnswer::Refused(n),
-    }
-}
-
-// From the commands' count on, at `c`.
-fn from_commands(s: &[u8], h: usize, e: usize, c: usize, homes: usize, exprs: usize) -> ReadAnswer
-    requires { ⌜ (h ≤ 7170) × (e ≤ 14340) × (c ≤ 21510) × (h + 2 + 4 * homes ≤ length (now s)) × (homes ≤ 1024) ⌝ }
-    ensures { λ r. ⌜ readSays r ≡ fromCommands (now (s .entry)) h e c homes exprs ⌝ }
-{
-    match section(s, Section::Commands(exprs), c) {
-        Step::Next(end, _) => from_end(s, h, e, c, end, homes),
         Step::No(n) => ReadAnswer::Refused(n),
     }
 }
 
 // From the expressions' count on, at `e`.
 fn from_exprs(s: &[u8], h: usize, e: usize, types: usize, homes: usize) -> ReadAnswer
-    requires { ⌜ (h ≤ 7170) × (e ≤ 14340) × (h + 2 + 4 * homes ≤ length (now s)) × (homes ≤ 1024) ⌝ }
+    requires { ⌜ (h ≤ 7170) × (e ≤ 14340) ⌝ }
     ensures { λ r. ⌜ readSays r ≡ fromExprs (now (s .entry)) h e types homes ⌝ }
 {
     match section(s, Section::Exprs(types, homes), e) {
-        Step::Next(c, exprs) => from_commands(s, h, e, c, homes, exprs),
+        Step::Next(c, exprs) => from_commands(s, h, e, c, exprs),
         Step::No(n) => ReadAnswer::Refused(n),
     }
 }
@@ -178,12 +166,64 @@ fn from_homes(s: &[u8], h: usize, types: usize) -> ReadAnswer
     }
 }
 
+// The four sections that every file has.
+fn four(s: &[u8]) -> ReadAnswer
+    ensures { λ r. ⌜ readSays r ≡ sections (now (s .entry)) ⌝ }
+{
+    match section(s, Section::Types, 0) {
+        Step::Next(h, types) => from_homes(s, h, types),
+        Step::No(n) => ReadAnswer::Refused(n),
+    }
+}
+
+// The start values, if a byte follows the commands.
+fn fifth(s: &[u8], at: Starts) -> Step
+    requires { ⌜ Four (now s) at ⌝ }
+    ensures { λ r. ⌜ FifthRead (now (s .entry)) at r ⌝ }
+{
+    let v = at.values as usize;
+    if v == s.len() {
+        return Step::Next(v, 0);
+    }
+    section(s, Section::Values(at.homes as usize), v)
+}
+
+// Behind the start values, at `end`: no spare byte, then the cells.
+fn from_end(s: &[u8], at: Starts, end: usize) -> ReadAnswer
+    requires { ⌜ Four (now s) at × (end ≤ 30000) ⌝ }
+    ensures { λ r. ⌜ readSays r ≡ fromEnd (now (s .entry)) at end ⌝ }
+{
+    if end != s.len() {
+        return ReadAnswer::Refused(Refusal {
+            number: 4,
+            place: end as u32,
+        });
+    }
+    let h = at.homes as usize;
+    match cells(s, h + 2, half_at(s, h)) {
+        Step::Next(_, _) => ReadAnswer::WellFormed(at),
+        Step::No(n) => ReadAnswer::Refused(n),
+    }
+}
+
+// Behind the commands.
+fn from_values(s: &[u8], at: Starts) -> ReadAnswer
+    requires { ⌜ Four (now s) at ⌝ }
+    ensures { λ r. ⌜ readSays r ≡ fromValues (now (s .entry)) at ⌝ }
+{
+    match fifth(s, at) {
+        Step::Next(end, _) => from_end(s, at, end),
+        Step::No(n) => ReadAnswer::Refused(n),
+    }
+}
+
 // The whole file.
 pub fn whole(file: &[u8]) -> ReadAnswer
     ensures { λ r. ⌜ readSays r ≡ reading (now (file .entry)) ⌝ }
 {
-    match section(file, Section::Types, 0) {
-        Step::Next(h, types) => from_homes(file, h, types),
-        Step::No(n) => ReadAnswer::Refused(n),
-    }
+    let found = four(file);
+    let ReadAnswer::WellFormed(at) = found else {
+        return found;
+    };
+    from_values(file, at)
 }

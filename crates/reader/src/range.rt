@@ -2,12 +2,12 @@
 use rules::Section;
 ghost use mathlib.Core.Path.{_≡_};
 ghost use mathlib.Core.Bool.{_&&_};
-ghost use Prim.Native.Nat.{ℕ, _+_, _<_, _≤_};
+ghost use Prim.Native.Nat.{ℕ, _+_, _*_, _<_, _≤_};
 ghost use lib.ListN.{length};
 ghost use lib.Dec.{ltb};
 ghost use Rattle.rules.specs.Basic.{half, inRange};
 ghost use Rattle.rules.specs.Reading.{rowBytes, rowGood};
-ghost use Rattle.reader.specs.Steps.{exprFields, commandFields};
+ghost use Rattle.reader.specs.Steps.{Sighted, exprFields, commandFields};
 
 // A byte as a number.
 fn wide(b: u8) -> usize
@@ -119,9 +119,22 @@ fn command_good(s: &[u8], exprs: usize, i: usize, q: usize) -> bool
     command_fields(tag, a, b, c, exprs, i)
 }
 
+// A start row, at place `q`: its home is a home of the file, and its cell one of that home's. The homes' count stands at `h`.
+fn value_good(s: &[u8], h: usize, q: usize) -> bool
+    requires { ⌜ (q + 8 ≤ length (now s)) × (h + 2 + 4 * half (now s) h ≤ length (now s)) ⌝ }
+    ensures { λ r. ⌜ ((i : ℕ) → r ≡ rowGood (now (s .entry)) (Section.Values h) i q) ⌝ }
+{
+    let g = half_at(s, q);
+    let homes = half_at(s, h);
+    if !in_range(1, g, homes) {
+        return false;
+    }
+    half_at(s, q + 2) < half_at(s, h + 4 * g)
+}
+
 // Whether row `i` of a section, which stands at place `q`, is in range.
 pub fn row_good(s: &[u8], part: Section, i: usize, q: usize) -> bool
-    requires { ⌜ q + rowBytes part ≤ length (now s) ⌝ }
+    requires { ⌜ (q + rowBytes part ≤ length (now s)) × Sighted (now s) part ⌝ }
     ensures { λ r. ⌜ r ≡ rowGood (now (s .entry)) part i q ⌝ }
 {
     match part {
@@ -129,5 +142,6 @@ pub fn row_good(s: &[u8], part: Section, i: usize, q: usize) -> bool
         Section::Homes(types) => home_good(s, types, q),
         Section::Exprs(types, homes) => expr_good(s, types, homes, i, q),
         Section::Commands(exprs) => command_good(s, exprs, i, q),
+        Section::Values(h) => value_good(s, h, q),
     }
 }

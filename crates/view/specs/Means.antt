@@ -7,17 +7,18 @@ use native.Mathlib.Numerals.{sub-one}
 use native.Mathlib.Omega.{arith}
 use mathlib.Core.List.{List}
 use lib.ListN.{length}
-use borrow.Author.Tests.{leb-true}
+use borrow.Author.Tests.{leb-true, ltb-true}
 use Rattle.rules.specs.declared.Starts.{Starts}
-use Rattle.rules.specs.Basic.{half}
+use Rattle.rules.specs.Basic.{half, inRange}
 use Rattle.rules.specs.Table.{Home, layout, exprOf, commandOf, routine}
 use Rattle.rules.specs.Reading.{rowGood, exprSpare, exprGood, commandSpare, commandGood}
 use Rattle.rules.specs.Shape.{homeAt}
 use Rattle.rules.specs.Tests.{parts-true, in-range}
 use Rattle.laws.specs.WellRead.{WellRead}
+use Rattle.laws.specs.Known.{values-good}
 use Rattle.view.specs.declared.ExprRow.{ExprRow}
 use Rattle.view.specs.declared.CommandRow.{CommandRow}
-use Rattle.view.specs.Rows.{homePlace, exprRow, commandRow}
+use Rattle.view.specs.Rows.{homePlace, exprRow, commandRow, valueRow}
 
 -- ---- a row's meaning
 
@@ -108,3 +109,18 @@ module _ (s : List ℕ) (at : Starts) (known : WellRead s at) where
   unfolding rowGood
   command-in-range c l =
       parts-true (commandSpare (commandRow s at c .tag) (commandRow s at c .a) (commandRow s at c .b) (commandRow s at c .c)) _ (known .commands .good c l) .1
+
+-- A start row names a home, and a cell of it.
+pub record ValueNames (s : List ℕ) (at : Starts) (i : ℕ) : Type 0 where
+  pub first : 1 ≤ valueRow s at i .home
+  pub last : valueRow s at i .home ≤ half s (at .homes)
+  pub cell : valueRow s at i .cell < half s (homePlace at (valueRow s at i .home) + 2)
+
+pub value-in-range : {s : List ℕ} {at : Starts} → WellRead s at → (i : ℕ) → i < half s (at .values) → ValueNames s at i
+unfolding rowGood
+value-in-range {s} {at} known i l =
+    let g = valueRow s at i .home in
+    let (a, b) = parts-true (inRange 1 g (half s (at .homes))) _ (values-good (known .values) i l) in
+    let (low, high) = in-range 1 g (half s (at .homes)) a in
+    let e : at .homes + 4 * valueRow s at i .home ≡ homePlace at (valueRow s at i .home) + 2 = omega (arith, low) in
+    record { first = low; last = high; cell = rw (← e) (ltb-true _ _ b) }

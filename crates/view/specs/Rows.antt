@@ -1,13 +1,16 @@
 -- The rows of a file's sections as the view answers them, and when they may be asked.
 use Prim.Native.Nat.{ℕ, _+_, _*_, _-_, _≤_, _<_}
 use mathlib.Core.List.{List}
+use lib.ListN.{length}
 use Rattle.rules.specs.declared.Starts.{Starts}
-use Rattle.rules.specs.Basic.{byte, half}
+use Rattle.rules.specs.Basic.{byte, half, word}
 use Rattle.laws.specs.WellRead.{WellRead}
+use Rattle.laws.specs.Known.{values-fit}
 use Rattle.view.specs.declared.TypeRow.{TypeRow}
 use Rattle.view.specs.declared.HomeRow.{HomeRow}
 use Rattle.view.specs.declared.ExprRow.{ExprRow}
 use Rattle.view.specs.declared.CommandRow.{CommandRow}
+use Rattle.view.specs.declared.ValueRow.{ValueRow}
 use Rattle.view.specs.declared.Counts.{Counts}
 
 -- The place of a row. Types and homes are numbered from 1.
@@ -27,6 +30,9 @@ exprRowAt s q = record { tag = byte s q; a = half s (q + 1); b = half s (q + 3) 
 abbrev pub commandRowAt : List ℕ → ℕ → CommandRow
 commandRowAt s q = record { tag = byte s q; a = half s (q + 1); b = half s (q + 3); c = half s (q + 5) }
 
+abbrev pub valueRowAt : List ℕ → ℕ → ValueRow
+valueRowAt s q = record { home = half s q; cell = half s (q + 2); value = word s (q + 4) }
+
 -- A row by its number.
 abbrev pub typeRow : List ℕ → Starts → ℕ → TypeRow
 typeRow s at t = typeRowAt s (at .types + 2 * t)
@@ -39,6 +45,9 @@ exprRow s at e = exprRowAt s (at .exprs + 2 + 5 * e)
 
 abbrev pub commandRow : List ℕ → Starts → ℕ → CommandRow
 commandRow s at c = commandRowAt s (at .commands + 2 + 7 * c)
+
+abbrev pub valueRow : List ℕ → Starts → ℕ → ValueRow
+valueRow s at i = valueRowAt s (at .values + 2 + 8 * i)
 
 abbrev pub countsOf : List ℕ → Starts → Counts
 countsOf s at =
@@ -61,3 +70,12 @@ pub record ExprAsked (s : List ℕ) (at : Starts) (e : ℕ) : Type 0 where
 pub record CommandAsked (s : List ℕ) (at : Starts) (c : ℕ) : Type 0 where
   pub file : WellRead s at
   pub row : c < half s (at .commands)
+
+pub record ValueAsked (s : List ℕ) (at : Starts) (i : ℕ) : Type 0 where
+  pub file : WellRead s at
+  pub row : i < half s (at .values)
+  -- It is whole, though a file need not have start values (`Fifth`).
+  pub whole : at .values + 2 + 8 * i + 8 ≤ length s
+
+pub value-asked : {s : List ℕ} {at : Starts} → WellRead s at → (i : ℕ) → i < half s (at .values) → ValueAsked s at i
+value-asked file i l = record { file = file; row = l; whole = values-fit (file .values) i l }

@@ -1,12 +1,12 @@
-// The view of a file that was read: its bytes and its four section starts, with one question for the rows of each section.
+// The view of a file that was read: its bytes and its five section starts, with one question for the rows of each section.
 // Above each question stands a function with plain parameters that makes the view and asks it; the work is done by functions on the slice.
 use rules::Starts;
 ghost use mathlib.Core.Path.{_≡_};
 ghost use Prim.Native.Nat.{_+_, _≤_, _<_};
 ghost use lib.ListN.{length};
-ghost use Rattle.rules.specs.Basic.{half};
+ghost use Rattle.rules.specs.Basic.{half, word};
 ghost use Rattle.laws.specs.WellRead.{WellRead};
-ghost use Rattle.view.specs.Rows.{typeRow, homeRow, exprRow, commandRow, countsOf, TypeAsked, HomeAsked, ExprAsked, CommandAsked};
+ghost use Rattle.view.specs.Rows.{typeRow, homeRow, exprRow, commandRow, valueRow, countsOf, TypeAsked, HomeAsked, ExprAsked, CommandAsked, ValueAsked};
 
 // A type row: the type that a reference of this type points to.
 pub struct TypeRow {
@@ -34,7 +34,14 @@ pub struct CommandRow {
     pub c: u16,
 }
 
-// How many rows each section has.
+// A start row: a cell of a home, and the number that it starts as.
+pub struct ValueRow {
+    pub home: u16,
+    pub cell: u16,
+    pub value: u32,
+}
+
+// How many rows each section has, but for the start values (`value_count`).
 pub struct Counts {
     pub types: u16,
     pub homes: u16,
@@ -42,7 +49,7 @@ pub struct Counts {
     pub commands: u16,
 }
 
-// The file's bytes and its four section starts.
+// The file's bytes and its five section starts.
 pub struct View<'a> {
     pub bytes: &'a [u8],
     pub at: Starts,
@@ -63,6 +70,14 @@ fn half_at(s: &[u8], i: usize) -> u16
     ensures { λ r. ⌜ r ≡ half (now (s .entry)) i ⌝ }
 {
     wide(s[i]) + 256 * wide(s[i + 1])
+}
+
+// The 32-bit number at place `i`.
+fn word_at(s: &[u8], i: usize) -> u32
+    requires { ⌜ i + 4 ≤ length (now s) ⌝ }
+    ensures { λ r. ⌜ r ≡ word (now (s .entry)) i ⌝ }
+{
+    half_at(s, i) as u32 + 65536 * half_at(s, i + 2) as u32
 }
 
 // Type row `t`, from 1; row 0 stands for the count.
@@ -115,7 +130,20 @@ fn command_at(s: &[u8], at: Starts, c: usize) -> CommandRow
     }
 }
 
-// How many rows the sections have.
+// Start row `i`.
+fn value_at(s: &[u8], at: Starts, i: usize) -> ValueRow
+    requires { ⌜ ValueAsked (now s) at i ⌝ }
+    ensures { λ r. ⌜ r ≡ valueRow (now (s .entry)) at i ⌝ }
+{
+    let q = at.values as usize + 2 + 8 * i;
+    ValueRow {
+        home: half_at(s, q),
+        cell: half_at(s, q + 2),
+        value: word_at(s, q + 4),
+    }
+}
+
+// How many rows the four sections have that every file has.
 pub fn row_counts(file: &[u8], at: Starts) -> Counts
     requires { ⌜ WellRead (now file) at ⌝ }
     ensures { λ r. ⌜ r ≡ countsOf (now (file .entry)) at ⌝ }
@@ -130,6 +158,18 @@ pub fn row_counts(file: &[u8], at: Starts) -> Counts
         exprs: half_at(file, exprs),
         commands: half_at(file, commands),
     }
+}
+
+// How many start rows there are: none where the file stops after the commands.
+pub fn value_count(file: &[u8], at: Starts) -> u16
+    requires { ⌜ WellRead (now file) at ⌝ }
+    ensures { λ r. ⌜ r ≡ half (now (file .entry)) (at .values) ⌝ }
+{
+    let q = at.values as usize;
+    if q == file.len() {
+        return 0;
+    }
+    half_at(file, q)
 }
 
 // ---- the view
@@ -173,6 +213,14 @@ pub fn ask_command<'a>(v: View<'a>, c: usize) -> CommandRow
     command_at(v.bytes, v.at, c)
 }
 
+// Start row `i` of the view's file.
+pub fn ask_value<'a>(v: View<'a>, i: usize) -> ValueRow
+    requires { ⌜ ValueAsked (now (v .bytes)) (v .at) i ⌝ }
+    ensures { λ r. ⌜ r ≡ valueRow (now (v .entry .bytes)) (v .entry .at) i ⌝ }
+{
+    value_at(v.bytes, v.at, i)
+}
+
 // ---- the same questions with plain parameters
 
 // Type row `t` of a file that was read.
@@ -205,4 +253,12 @@ pub fn command_row(file: &[u8], at: Starts, c: usize) -> CommandRow
     ensures { λ r. ⌜ r ≡ commandRow (now (file .entry)) at c ⌝ }
 {
     ask_command(view_of(file, at), c)
+}
+
+// Start row `i` of a file that was read.
+pub fn value_row(file: &[u8], at: Starts, i: usize) -> ValueRow
+    requires { ⌜ ValueAsked (now file) at i ⌝ }
+    ensures { λ r. ⌜ r ≡ valueRow (now (file .entry)) at i ⌝ }
+{
+    ask_value(view_of(file, at), i)
 }

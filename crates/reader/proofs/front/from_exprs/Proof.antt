@@ -1,4 +1,5 @@
 -- `front::from_exprs` meets its contract: the section is refused, or the reading goes on behind it. Assumes nothing.
+use Rattle.reader.specs.Steps.{of-exprs}
 use Rattle.reader.proofs.Sections.{goes, halts}
 use native.Mathlib.Omega.{arith}
 use borrow.Author.Needs.{needs}
@@ -6,13 +7,13 @@ use Rattle.reader.proofs.front.from_exprs.Statement.{statement}
 use Rattle.reader.proofs.front.from_exprs.Tie as tie
 
 section-requires : tie.Need-section-requires
-section-requires c κs = search needs
+section-requires c κs = (omega arith, of-exprs)
 
 enum-known-c : tie.Need-enum-known-c
 enum-known-c c = search needs
 
 from-commands-requires : tie.Need-from-commands-requires
-from-commands-requires c κs = let p = c .before .before .before .section .ensures .passed _ _ (c .before .c .given .1) in (c .before .before .before .before .before .pre .0, c .before .before .before .before .before .pre .1, omega (arith, p), c .before .before .before .before .before .pre .2, c .before .before .before .before .before .pre .3)
+from-commands-requires c κs = let p = c .before .before .before .section .ensures .passed _ _ (c .before .c .given .1) in (c .before .before .before .before .before .pre .0, c .before .before .before .before .before .pre .1, omega (arith, p))
 
 enum-known-n : tie.Need-enum-known-n
 enum-known-n c = search needs

@@ -1,4 +1,5 @@
 -- `front::from_homes` meets its contract: the section is refused, or the reading goes on behind it. Assumes nothing.
+use Rattle.reader.specs.Steps.{of-homes}
 use Rattle.reader.proofs.Sections.{goes, halts}
 use native.Mathlib.Omega.{arith}
 use borrow.Author.Needs.{needs}
@@ -6,13 +7,13 @@ use Rattle.reader.proofs.front.from_homes.Statement.{statement}
 use Rattle.reader.proofs.front.from_homes.Tie as tie
 
 section-requires : tie.Need-section-requires
-section-requires c κs = search needs
+section-requires c κs = (omega arith, of-homes)
 
 enum-known-e : tie.Need-enum-known-e
 enum-known-e c = search needs
 
 from-exprs-requires : tie.Need-from-exprs-requires
-from-exprs-requires c κs = let p = c .before .before .before .section .ensures .passed _ _ (c .before .e .given .1) in (c .before .before .before .before .before .pre, omega (arith, p), omega (arith, p), omega (arith, p))
+from-exprs-requires c κs = let p = c .before .before .before .section .ensures .passed _ _ (c .before .e .given .1) in (c .before .before .before .before .before .pre, omega (arith, p))
 
 enum-known-n : tie.Need-enum-known-n
 enum-known-n c = search needs

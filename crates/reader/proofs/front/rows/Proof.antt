@@ -30,7 +30,7 @@ returns : tie.Need-returns Inv-loop μ-loop
 returns c = row-short (c .before .before .before .loop .inv) (c .before .before .loop-test .taken) (c .no .ensures) (c .before .if1 .taken)
 
 row-good-requires : tie.Need-row-good-requires Inv-loop μ-loop
-row-good-requires c κs = rw (← c .before .before .loop .inv .width) (c .if1 .left)
+row-good-requires c κs = (rw (← c .before .before .loop .inv .width) (c .if1 .left), c .before .before .before .before .before .pre .3)
 
 no-requires-2 : tie.Need-no-requires-2 Inv-loop μ-loop
 no-requires-2 c κs = omega arith

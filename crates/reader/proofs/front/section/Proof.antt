@@ -37,7 +37,7 @@ add-rows : tie.Need-add-rows
 add-rows c = search needs
 
 rows-requires : tie.Need-rows-requires
-rows-requires c κs = let few = few-rows (c .before .before .before .before .before .before .before .args .s .now) (c .before .before .before .before .before .before .before .args .part) (c .before .before .before .before .before .before .before .args .q) _ _ _ _ (c .before .before .before .before .before .if1 .left) (c .before .before .before .before .half-at .ensures .0) (c .before .before .before .fewest-of .ensures) (c .before .before .most-of .ensures .0) (c .before .in-range .ensures) (not-false _ (c .if2 .left)) in (omega arith, omega arith, omega arith)
+rows-requires c κs = let few = few-rows (c .before .before .before .before .before .before .before .args .s .now) (c .before .before .before .before .before .before .before .args .part) (c .before .before .before .before .before .before .before .args .q) _ _ _ _ (c .before .before .before .before .before .if1 .left) (c .before .before .before .before .half-at .ensures .0) (c .before .before .before .fewest-of .ensures) (c .before .before .most-of .ensures .0) (c .before .in-range .ensures) (not-false _ (c .if2 .left)) in (omega arith, omega arith, omega arith, c .before .before .before .before .before .before .before .pre .1)
 
 returns-3 : tie.Need-returns-3
 returns-3 c = section-rows (c .before .before .before .before .before .before .before .before .args .s .now) (c .before .before .before .before .before .before .before .before .args .part) (c .before .before .before .before .before .before .before .before .args .q) _ _ _ _ (c .before .before .before .before .before .before .if1 .left) (c .before .before .before .before .before .half-at .ensures .0) (c .before .before .before .before .fewest-of .ensures) (c .before .before .before .most-of .ensures .0) (c .before .before .in-range .ensures) _ (c .before .before .before .most-of .ensures .1) (not-false _ (c .before .if2 .left)) (c .rows .ensures)

@@ -1,30 +1,28 @@
--- `front::whole` meets its contract: the first section is refused, or the reading goes on behind it. Assumes nothing.
-use Rattle.reader.proofs.Sections.{goes, halts, reading-is}
-use mathlib.Core.Path.{sym, _∙_}
-use native.Mathlib.Omega.{arith}
+-- `front::whole` meets its contract: one of the four sections is refused, or what follows them decides. Assumes nothing.
+use Rattle.reader.proofs.Sections.{four-refused, four-known, four-passed}
 use borrow.Author.Needs.{needs}
 use Rattle.reader.proofs.front.whole.Statement.{statement}
 use Rattle.reader.proofs.front.whole.Tie as tie
 
-section-requires : tie.Need-section-requires
-section-requires c κs = search needs
+four-requires : tie.Need-four-requires
+four-requires c κs = search needs
 
-enum-known-h : tie.Need-enum-known-h
-enum-known-h c = search needs
+enum-known-found : tie.Need-enum-known-found
+enum-known-found c = search needs
 
-from-homes-requires : tie.Need-from-homes-requires
-from-homes-requires c κs = omega (arith, c .before .before .before .section .ensures .passed _ _ (c .before .h .given .1))
-
-enum-known-n : tie.Need-enum-known-n
-enum-known-n c = search needs
+enum-told : tie.Need-enum-told
+enum-told c = search needs
 
 returns : tie.Need-returns
-returns c = goes _ _ _ _ _ (c .before .before .before .before .section .ensures) (c .before .before .h .given .1) (c .from-homes .ensures) ∙ sym (reading-is (c .before .before .before .before .before .before .args .file .now))
+returns c = four-refused (c .before .before .before .before .args .file .now) (c .before .before .four .result) (c .before .before .four .ensures) (c .before .match .keys2)
+
+from-values-requires : tie.Need-from-values-requires
+from-values-requires c κs = four-known (c .before .before .before .before .before .args .file .now) (c .before .before .before .four .result) (c .before .before .before .four .ensures) (c .before .found .given .1)
 
 returns-2 : tie.Need-returns-2
-returns-2 c = halts _ _ _ _ (c .before .before .before .section .ensures) (c .before .n .given .1) ∙ sym (reading-is (c .before .before .before .before .before .args .file .now))
+returns-2 c = four-passed (c .before .before .before .before .before .before .args .file .now) (c .before .before .before .before .four .result) (c .before .before .before .before .four .ensures) (c .before .before .found .given .1) (c .from-values .ensures)
 
 pub whole-spec : {M : Type 1} → statement M
 whole-spec =
     tie.close
-    (tie.spec section-requires enum-known-h from-homes-requires enum-known-n returns returns-2)
+    (tie.spec four-requires enum-known-found enum-told returns from-values-requires returns-2)

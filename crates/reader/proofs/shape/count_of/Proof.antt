@@ -1,12 +1,15 @@
--- `shape::count_of` meets its contract: each branch is the count of the rows that are meant. Assumes nothing.
-use Rattle.reader.proofs.Shapes.{count-is}
-use Rattle.view.specs.declared.Counts.{Counts}
-use Rattle.rules.specs.Table.{routine}
-use mathlib.Core.Bool.{true, false}
+-- `shape::count_of` meets its contract: each arm is the count of the rows that are meant. Assumes nothing.
 use mathlib.Core.Path.{ap}
+use Rattle.rules.specs.Table.{routine}
+use Rattle.view.specs.declared.Counts.{Counts}
+use Rattle.reader.specs.Tables.{countOf}
+use Rattle.reader.proofs.Shapes.{meant, meant-values}
 use borrow.Author.Needs.{needs}
 use Rattle.reader.proofs.shape.count_of.Statement.{statement}
 use Rattle.reader.proofs.shape.count_of.Tie as tie
+
+enum-told : tie.Need-enum-told
+enum-told c = search needs
 
 row-counts-requires : tie.Need-row-counts-requires
 row-counts-requires c κs = search needs
@@ -14,15 +17,42 @@ row-counts-requires c κs = search needs
 cast-result : tie.Need-cast-result
 cast-result c = search needs
 
-returns : tie.Need-returns
-returns c = count-is (routine (c .before .before .before .before .args .file .now) (c .before .before .before .before .args .at)) (c .before .before .before .before .args .commands) true _ (c .before .if1 .taken) (ap (λ (r : Counts). r .commands) (c .before .before .row-counts .ensures))
+enum-told-2 : tie.Need-enum-told-2
+enum-told-2 c = search needs
+
+row-counts-requires-2 : tie.Need-row-counts-requires-2
+row-counts-requires-2 c κs = search needs
 
 cast-result-2 : tie.Need-cast-result-2
 cast-result-2 c = search needs
 
+value-count-requires : tie.Need-value-count-requires
+value-count-requires c κs = search needs
+
+cast-result-3 : tie.Need-cast-result-3
+cast-result-3 c = search needs
+
+returns : tie.Need-returns
+returns c = meant (λ k. countOf (routine (c .before .before .before .before .before .args .file .now) (c .before .before .before .before .before .args .at)) k) (c .before .before .before .before .before .args .test) 1 (c .before .before .before .match .keys1) (ap (λ (r : Counts). r .exprs) (c .before .row-counts .ensures))
+
 returns-2 : tie.Need-returns-2
-returns-2 c = count-is (routine (c .before .before .before .before .args .file .now) (c .before .before .before .before .args .at)) (c .before .before .before .before .args .commands) false _ (c .before .if1 .left) (ap (λ (r : Counts). r .exprs) (c .before .before .row-counts .ensures))
+returns-2 c = meant (λ k. countOf (routine (c .before .before .before .before .before .args .file .now) (c .before .before .before .before .before .args .at)) k) (c .before .before .before .before .before .args .test) 2 (c .before .before .before .match .keys2) (ap (λ (r : Counts). r .commands) (c .before .row-counts2 .ensures))
+
+returns-3 : tie.Need-returns-3
+returns-3 c = meant-values (λ k. countOf (routine (c .before .before .before .args .file .now) (c .before .before .before .args .at)) k) (c .before .before .before .args .test) (c .before .match .keys3) (c .value-count .ensures) (c .value-count .ensures)
 
 pub count-of-spec : {M : Type 1} → statement M
 count-of-spec =
-    tie.close (tie.spec row-counts-requires cast-result returns cast-result-2 returns-2)
+    tie.close
+    (tie.spec
+    enum-told
+    row-counts-requires
+    cast-result
+    enum-told-2
+    row-counts-requires-2
+    cast-result-2
+    value-count-requires
+    cast-result-3
+    returns
+    returns-2
+    returns-3)

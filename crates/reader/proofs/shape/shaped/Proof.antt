@@ -1,11 +1,13 @@
--- `shape::shaped` meets its contract: an expression row is refused first, or the commands decide. Assumes nothing.
-use Rattle.reader.proofs.Shapes.{exprs-misshapen, exprs-shaped}
+-- `shape::shaped` meets its contract: the first test that a row fails refuses it, and behind one that all pass the next one decides. Assumes nothing.
+use mathlib.Core.Path.{_∙_}
+use Rattle.reader.proofs.Shapes.{test-fails, test-passes, fromValues, fromCommands, fromExprs, behind-is}
+use Rattle.reader.specs.declared.shape.Test.the-variants.{Rising, Exprs, Commands, Values}
 use borrow.Author.Needs.{needs}
 use Rattle.reader.proofs.shape.shaped.Statement.{statement}
 use Rattle.reader.proofs.shape.shaped.Tie as tie
 
-rows-shaped-requires : tie.Need-rows-shaped-requires
-rows-shaped-requires c κs = search needs
+rows-pass-requires : tie.Need-rows-pass-requires
+rows-pass-requires c κs = search needs
 
 enum-told : tie.Need-enum-told
 enum-told c = search needs
@@ -14,15 +16,53 @@ enum-told-2 : tie.Need-enum-told-2
 enum-told-2 c = search needs
 
 returns : tie.Need-returns
-returns c = exprs-misshapen (c .before .before .before .before .args .file .now) (c .before .before .before .before .args .at) (c .before .before .rows-shaped .result) (c .before .before .rows-shaped .ensures) (c .before .match .keys2)
+returns c = test-fails (c .before .before .before .before .args .file .now) (c .before .before .before .before .args .at) Rising (c .before .before .rows-pass .result) (c .before .before .rows-pass .ensures) (λ _. fromExprs (c .before .before .before .before .args .file .now) (c .before .before .before .before .args .at)) (c .before .match .keys2) ∙ behind-is (c .before .before .before .before .args .file .now) (c .before .before .before .before .args .at)
 
-rows-shaped-requires-2 : tie.Need-rows-shaped-requires-2
-rows-shaped-requires-2 c κs = search needs
+rows-pass-requires-2 : tie.Need-rows-pass-requires-2
+rows-pass-requires-2 c κs = search needs
+
+enum-told-3 : tie.Need-enum-told-3
+enum-told-3 c = search needs
+
+enum-told-4 : tie.Need-enum-told-4
+enum-told-4 c = search needs
 
 returns-2 : tie.Need-returns-2
-returns-2 c = exprs-shaped (c .before .before .before .before .before .args .file .now) (c .before .before .before .before .before .args .at) (c .before .before .before .rows-shaped .result) (c .before .before .before .rows-shaped .ensures) (c .before .before .match .keys1) (c .rows-shaped2 .ensures)
+returns-2 c = test-passes (c .before .before .before .before .before .before .before .args .file .now) (c .before .before .before .before .before .before .before .args .at) Rising (c .before .before .before .before .before .rows-pass .result) (c .before .before .before .before .before .rows-pass .ensures) (λ _. fromExprs (c .before .before .before .before .before .before .before .args .file .now) (c .before .before .before .before .before .before .before .args .at)) (c .before .before .before .before .match .keys1) (test-fails (c .before .before .before .before .before .before .before .args .file .now) (c .before .before .before .before .before .before .before .args .at) Exprs (c .before .before .rows-pass2 .result) (c .before .before .rows-pass2 .ensures) (λ _. fromCommands (c .before .before .before .before .before .before .before .args .file .now) (c .before .before .before .before .before .before .before .args .at)) (c .before .match2 .keys2)) ∙ behind-is (c .before .before .before .before .before .before .before .args .file .now) (c .before .before .before .before .before .before .before .args .at)
+
+rows-pass-requires-3 : tie.Need-rows-pass-requires-3
+rows-pass-requires-3 c κs = search needs
+
+enum-told-5 : tie.Need-enum-told-5
+enum-told-5 c = search needs
+
+enum-told-6 : tie.Need-enum-told-6
+enum-told-6 c = search needs
+
+returns-3 : tie.Need-returns-3
+returns-3 c = test-passes (c .before .before .before .before .before .before .before .before .before .before .args .file .now) (c .before .before .before .before .before .before .before .before .before .before .args .at) Rising (c .before .before .before .before .before .before .before .before .rows-pass .result) (c .before .before .before .before .before .before .before .before .rows-pass .ensures) (λ _. fromExprs (c .before .before .before .before .before .before .before .before .before .before .args .file .now) (c .before .before .before .before .before .before .before .before .before .before .args .at)) (c .before .before .before .before .before .before .before .match .keys1) (test-passes (c .before .before .before .before .before .before .before .before .before .before .args .file .now) (c .before .before .before .before .before .before .before .before .before .before .args .at) Exprs (c .before .before .before .before .before .rows-pass2 .result) (c .before .before .before .before .before .rows-pass2 .ensures) (λ _. fromCommands (c .before .before .before .before .before .before .before .before .before .before .args .file .now) (c .before .before .before .before .before .before .before .before .before .before .args .at)) (c .before .before .before .before .match2 .keys1) (test-fails (c .before .before .before .before .before .before .before .before .before .before .args .file .now) (c .before .before .before .before .before .before .before .before .before .before .args .at) Commands (c .before .before .rows-pass3 .result) (c .before .before .rows-pass3 .ensures) (λ _. fromValues (c .before .before .before .before .before .before .before .before .before .before .args .file .now) (c .before .before .before .before .before .before .before .before .before .before .args .at)) (c .before .match3 .keys2))) ∙ behind-is (c .before .before .before .before .before .before .before .before .before .before .args .file .now) (c .before .before .before .before .before .before .before .before .before .before .args .at)
+
+rows-pass-requires-4 : tie.Need-rows-pass-requires-4
+rows-pass-requires-4 c κs = search needs
+
+returns-4 : tie.Need-returns-4
+returns-4 c = test-passes (c .before .before .before .before .before .before .before .before .before .before .before .args .file .now) (c .before .before .before .before .before .before .before .before .before .before .before .args .at) Rising (c .before .before .before .before .before .before .before .before .before .rows-pass .result) (c .before .before .before .before .before .before .before .before .before .rows-pass .ensures) (λ _. fromExprs (c .before .before .before .before .before .before .before .before .before .before .before .args .file .now) (c .before .before .before .before .before .before .before .before .before .before .before .args .at)) (c .before .before .before .before .before .before .before .before .match .keys1) (test-passes (c .before .before .before .before .before .before .before .before .before .before .before .args .file .now) (c .before .before .before .before .before .before .before .before .before .before .before .args .at) Exprs (c .before .before .before .before .before .before .rows-pass2 .result) (c .before .before .before .before .before .before .rows-pass2 .ensures) (λ _. fromCommands (c .before .before .before .before .before .before .before .before .before .before .before .args .file .now) (c .before .before .before .before .before .before .before .before .before .before .before .args .at)) (c .before .before .before .before .before .match2 .keys1) (test-passes (c .before .before .before .before .before .before .before .before .before .before .before .args .file .now) (c .before .before .before .before .before .before .before .before .before .before .before .args .at) Commands (c .before .before .before .rows-pass3 .result) (c .before .before .before .rows-pass3 .ensures) (λ _. fromValues (c .before .before .before .before .before .before .before .before .before .before .before .args .file .now) (c .before .before .before .before .before .before .before .before .before .before .before .args .at)) (c .before .before .match3 .keys1) (c .rows-pass4 .ensures))) ∙ behind-is (c .before .before .before .before .before .before .before .before .before .before .before .args .file .now) (c .before .before .before .before .before .before .before .before .before .before .before .args .at)
 
 pub shaped-spec : {M : Type 1} → statement M
 shaped-spec =
     tie.close
-    (tie.spec rows-shaped-requires enum-told enum-told-2 returns rows-shaped-requires-2 returns-2)
+    (tie.spec
+    rows-pass-requires
+    enum-told
+    enum-told-2
+    returns
+    rows-pass-requires-2
+    enum-told-3
+    enum-told-4
+    returns-2
+    rows-pass-requires-3
+    enum-told-5
+    enum-told-6
+    returns-3
+    rows-pass-requires-4
+    returns-4)
