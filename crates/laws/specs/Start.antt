@@ -183,13 +183,17 @@ module _ (r : Routine) (m : List ℕ) where
     pub start-ok : ValidState r m (start r m lent)
     start-ok = given-ok (r .values) (le-refl (r .values))
 
+    -- So it is the place of a cell.
+    pub row-below : (i : ℕ) → i < r .values → homeAt (r .homes) (r .value i .home) .start + r .value i .cell - 1 < total hs
+    row-below i l =
+        let f = formed .values i l .0 in
+        omega (arith, f .cell, low′ (r .value i .home) (f .home), high′ (r .value i .home) (f .home))
+
     -- Entries past the cells stay as they were.
     pub given-past : (n : ℕ) (l : List ℕ) → n ≤ r .values → drop (total hs) (given r m n l) ≡ drop (total hs) l
     given-past zero l k = refl
     given-past (suc n) l k =
         let x = r .value n in
         let h = homeAt (r .homes) (x .home) in
-        let (f, shaped) = formed .values n k in
-        let below : h .start + x .cell - 1 < total hs = omega (arith, f .cell, low′ (x .home) (f .home), high′ (x .home) (f .home)) in
-        drop-set-lt (total hs) (given r m n l) (h .start + x .cell - 1) (encode (givenValue (kind m (h .type)) (x .value))) below
+        drop-set-lt (total hs) (given r m n l) (h .start + x .cell - 1) (encode (givenValue (kind m (h .type)) (x .value))) (row-below n k)
         ∙ given-past n l (omega arith)

@@ -27,6 +27,9 @@ plain n T =
       commands = 0;
       command = λ c. Command.none;
       commandPlace = λ c. 0;
+      values = 0;
+      value = λ i. record { home = 0; cell = 0; value = 0 };
+      valuePlace = λ i. 0;
     }
 
 -- ---- equivalences

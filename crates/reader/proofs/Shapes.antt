@@ -33,9 +33,9 @@ use Rattle.view.specs.declared.ValueRow.{ValueRow}
 use Rattle.rules.specs.Tests.{false-true, parts-true, both-less, in-range, fine-same}
 use Rattle.laws.specs.WellRead.{WellRead}
 use Rattle.laws.specs.Known.{values-few, reading-known}
-use Rattle.view.specs.Rows.{homePlace, homeRow, typeRow, exprRow, commandRow, valueRow, HomeAsked, TypeAsked}
+use Rattle.view.specs.Rows.{homeRow, typeRow, exprRow, commandRow, valueRow, HomeAsked, TypeAsked}
 use Rattle.view.specs.Tags.{expr-good-op, command-none}
-use Rattle.view.specs.Means.{expr-means, command-means, home-has, home-in-range, expr-in-range, command-in-range, value-in-range}
+use Rattle.view.specs.Means.{expr-means, command-means, home-has, expr-in-range, command-in-range, value-home}
 use Rattle.view.specs.Typed.{type-by-rule, type-in-range}
 use Rattle.reader.specs.declared.shape.Test.{Test}
 use Rattle.reader.specs.declared.shape.Test.the-variants.{Rising, Exprs, Commands, Values}
@@ -228,27 +228,14 @@ module _ {s : List ℕ} {at : Starts} {before : List ℕ} {n e : ℕ} {ty : List
 -- ---- start rows
 
 module _ {s : List ℕ} {at : Starts} (known : WellRead s at) {i : ℕ} (less : i < half s (at .values)) {row : ValueRow} (is : row ≡ valueRow s at i) where
-  -- The home of a start row has a row, and so has its type.
-  pub value-home : HomeAsked s at (row .home)
-  value-home =
-      let e : row .home ≡ half s (at .values + 2 + 8 * i) = ap (λ (x : ValueRow). x .home) is in
-      rw e (record { file = known; first = value-in-range known i less .first; row = value-in-range known i less .last })
-
-  module _ {home : HomeRow} (named : home ≡ homeRow s at (row .home)) where
-    pub value-type : TypeAsked s at (home .ty)
-    value-type =
-        let asked = value-home in
-        let e : home .ty ≡ half s (homePlace at (row .home)) = ap (λ (x : HomeRow). x .ty) named in
-        record { file = known; row = omega (arith, e, home-in-range s at known (row .home) (asked .first) (asked .row) .0 .1) }
-
-    pub value-shaped-is : {type : TypeRow} → type ≡ typeRow s at (home .ty) → eqb (type .target) 0 ≡ valueShaped (routine s at) (routine s at .value i)
-    value-shaped-is {type} e =
-        let asked = value-home in
-        let a : row .home ≡ routine s at .value i .home = ap (λ (x : ValueRow). x .home) is in
-        let b : home .ty ≡ homeAt (routine s at .homes) (row .home) .type
-        = ap (λ (x : HomeRow). x .ty) named ∙ home-has s at (row .home) (asked .first) (asked .row) .type in
-        let c : type .target ≡ routine s at .target (home .ty) = ap (λ (x : TypeRow). x .target) e in
-        rw (c, b, a)
+  pub value-shaped-is : {home : HomeRow} {type : TypeRow} → home ≡ homeRow s at (row .home) → type ≡ typeRow s at (home .ty) → eqb (type .target) 0 ≡ valueShaped (routine s at) (routine s at .value i)
+  value-shaped-is {home} {type} named e =
+      let asked = value-home known less is in
+      let a : row .home ≡ routine s at .value i .home = ap (λ (x : ValueRow). x .home) is in
+      let b : home .ty ≡ homeAt (routine s at .homes) (row .home) .type
+      = ap (λ (x : HomeRow). x .ty) named ∙ home-has s at (row .home) (asked .first) (asked .row) .type in
+      let c : type .target ≡ routine s at .target (home .ty) = ap (λ (x : TypeRow). x .target) e in
+      rw (c, b, a)
 
 -- One row after the other.
 pub first-rises : (r : Routine) (i : ℕ) → i ≡ 0 → true ≡ rises r i

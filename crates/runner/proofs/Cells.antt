@@ -1,4 +1,4 @@
--- The starting memory, home by home: what is still to be written makes the same memory of what stands there as of what stood there first.
+-- The cells' own starting values, home by home: what is still to be written makes the same memory of what stands there as of what stood there first.
 use mathlib.Core.Path.{_≡_, refl, sym, ap, _∙_}
 use Prim.Native.Nat.{ℕ, suc, _+_, _*_, _-_, _<_, _≤_}
 use native.Mathlib.Omega.{arith}
@@ -10,7 +10,7 @@ use Rattle.rules.specs.Basic.{half}
 use Rattle.rules.specs.Table.{Home, Routine, layout, total, routine}
 use Rattle.rules.specs.Kinds.{kind}
 use Rattle.rules.specs.Memory.{encode}
-use Rattle.rules.specs.Run.{startValue, startCells, start}
+use Rattle.rules.specs.Run.{startValue, startCells, cleared}
 use Rattle.rules.specs.Calls.{cellCount}
 use Rattle.laws.specs.Start.{length-start}
 use Rattle.view.specs.declared.HomeRow.{HomeRow}
@@ -43,7 +43,7 @@ pub record Begun (s : List ℕ) (at : Starts) (m : List ℕ) (n g from : ℕ) (l
   pub fits : g ≤ n
   pub long : length l ≡ length lent
   pub room : from + total (layout s (at .homes + 2 + 4 * g) (1 + from) (n - g)) ≤ length l
-  pub same : start (routine s at) m lent .memory ≡ finish (routine s at) m (layout s (at .homes + 2 + 4 * g) (1 + from) (n - g)) from l
+  pub same : cleared (routine s at) m lent ≡ finish (routine s at) m (layout s (at .homes + 2 + 4 * g) (1 + from) (n - g)) from l
 
 module _ (s : List ℕ) (at : Starts) (m : List ℕ) (n : ℕ) (count : n ≡ half s (at .homes)) (lent : List ℕ) where
   pub begun-first : cellCount (routine s at) ≤ length lent → Begun s at m n 0 0 lent lent
@@ -59,7 +59,7 @@ module _ (s : List ℕ) (at : Starts) (m : List ℕ) (n : ℕ) (count : n ≡ ha
             rw (e, f, length-start (routine s at) m (layout s (at .homes + 2) 1 (half s (at .homes))), z);
       }
 
-  pub begun-all : (g from : ℕ) (l : List ℕ) → n ≤ g → Begun s at m n g from lent l → l ≡ start (routine s at) m lent .memory
+  pub begun-all : (g from : ℕ) (l : List ℕ) → n ≤ g → Begun s at m n g from lent l → l ≡ cleared (routine s at) m lent
   begun-all g from l h y =
       let e : n - g ≡ 0 = omega arith in
       let f : from + 0 ≡ from = omega arith in
@@ -95,7 +95,7 @@ module _ {s : List ℕ} {at : Starts} {m : List ℕ} {n g from : ℕ} {lent l : 
       let a : at .homes + 2 + 4 * (g + 1) ≡ at .homes + 2 + 4 * g + 4 = omega arith in
       let b : n - (g + 1) ≡ n - g - 1 = omega arith in
       let d : 1 + (from + w) ≡ 1 + from + w = omega arith in
-      let z : start (routine s at) m lent .memory ≡ finish (routine s at) m (layout s (at .homes + 2 + 4 * g) (1 + from) (suc (n - g - 1))) from l = rw left at (y .same) in
+      let z : cleared (routine s at) m lent ≡ finish (routine s at) m (layout s (at .homes + 2 + 4 * g) (1 + from) (suc (n - g - 1))) from l = rw left at (y .same) in
       record {
         fits = omega arith;
         long = c ∙ y .long;

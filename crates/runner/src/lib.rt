@@ -11,12 +11,14 @@ ghost use Prim.Native.Nat.{ℕ, _+_, _≤_, _<_};
 ghost use lib.ListN.{length};
 ghost use Rattle.rules.specs.Table.{routine};
 ghost use Rattle.rules.specs.Memory.{encode};
-ghost use Rattle.rules.specs.Run.{startValue, start, run};
+ghost use Rattle.rules.specs.Run.{startValue, givenValue, cleared, given, run};
 ghost use Rattle.rules.specs.Basic.{half};
 ghost use Rattle.rules.specs.Calls.{cellCount, runSays, reported, running, Left, Ended};
 ghost use Rattle.laws.specs.WellRead.{WellRead};
+ghost use Rattle.laws.specs.Formed.{Formed};
+ghost use Rattle.table.specs.Words.{Homes};
 ghost use Rattle.filling.specs.Filling.{kindAt, Accepted, ReferenceReady};
-ghost use Rattle.runner.specs.Whole.{spread, entryIn, placeAt, reportOf, Reportable};
+ghost use Rattle.runner.specs.Whole.{spread, entryIn, valueEntry, valueCell, placeAt, reportOf, Reportable};
 
 // ---- the starting memory
 
@@ -56,10 +58,10 @@ fn home_entry(file: &[u8], at: Starts, marking: &[u8], p: u16) -> u64
     start_entry(k, target)
 }
 
-// Writes the starting memory over the lent cells.
-fn start(file: &[u8], at: Starts, marking: &[u8], ty: &[u16; 1024], n: usize, memory: &mut [u64])
+// Writes the cells' own starting values over the lent cells.
+fn clear(file: &[u8], at: Starts, marking: &[u8], ty: &[u16; 1024], n: usize, memory: &mut [u64])
     requires { ⌜ Accepted (now file) at (now marking) (now ty) × (n ≡ half (now file) (at .homes)) × (cellCount (routine (now file) at) ≤ length (now memory)) ⌝ }
-    ensures { λ _. ⌜ now (memory .exit) ≡ start (routine (now (file .entry)) at) (now (marking .entry)) (now (memory .entry)) .memory ⌝ }
+    ensures { λ _. ⌜ now (memory .exit) ≡ cleared (routine (now (file .entry)) at) (now (marking .entry)) (now (memory .entry)) ⌝ }
 {
     let mut g: usize = 0;
     let mut from: usize = 0;
@@ -70,6 +72,59 @@ fn start(file: &[u8], at: Starts, marking: &[u8], ty: &[u16; 1024], n: usize, me
         write(memory, from, size, x);
         from = from + size;
         g = g + 1;
+    }
+}
+
+// What a start value is, by its home's kind.
+fn given_entry(k: u8, value: u32) -> u64
+    ensures { λ r. ⌜ r ≡ encode (givenValue (kindAt k) value) ⌝ }
+{
+    if k < 3 {
+        return value as u64;
+    }
+    value as u64 + 4294967296
+}
+
+// The same for start row `i`.
+fn value_entry(file: &[u8], at: Starts, marking: &[u8], ty: &[u16; 1024], i: usize) -> u64
+    requires { ⌜ Accepted (now file) at (now marking) (now ty) × (i < half (now file) (at .values)) ⌝ }
+    ensures { λ r. ⌜ r ≡ valueEntry (routine (now (file .entry)) at) (now (marking .entry)) (routine (now (file .entry)) at .value i) ⌝ }
+{
+    let row = view::value_row(file, at, i);
+    let home = view::home_row(file, at, row.home as usize);
+    let k = filling::kind_of(marking, home.ty);
+    given_entry(k, row.value)
+}
+
+// The place in memory of start row `i`'s cell.
+fn value_cell(file: &[u8], at: Starts, t: &[u64; 2113], i: usize) -> usize
+    requires { ⌜ WellRead (now file) at × Formed (routine (now file) at) × Homes (routine (now file) at .homes) (now t) × (i < half (now file) (at .values)) ⌝ }
+    ensures { λ r. ⌜ r ≡ valueCell (routine (now (file .entry)) at) (routine (now (file .entry)) at .value i) ⌝ }
+{
+    let row = view::value_row(file, at, i);
+    let start = table::start_of(t, row.home as u32) as usize;
+    start + row.cell as usize - 1
+}
+
+// Writes the start values over the cells.
+fn give(
+    file: &[u8],
+    at: Starts,
+    marking: &[u8],
+    ty: &[u16; 1024],
+    t: &[u64; 2113],
+    memory: &mut [u64],
+)
+    requires { ⌜ Accepted (now file) at (now marking) (now ty) × Homes (routine (now file) at .homes) (now t) × (cellCount (routine (now file) at) ≤ length (now memory)) ⌝ }
+    ensures { λ _. ⌜ now (memory .exit) ≡ given (routine (now (file .entry)) at) (now (marking .entry)) (half (now (file .entry)) (at .values)) (now (memory .entry)) ⌝ }
+{
+    let n = view::value_count(file, at) as usize;
+    let mut i: usize = 0;
+    while i < n {
+        let x = value_entry(file, at, marking, ty, i);
+        let c = value_cell(file, at, t, i);
+        memory[c] = x;
+        i = i + 1;
     }
 }
 
@@ -138,7 +193,8 @@ pub fn run_checked(
     let mut t = [0u64; 2113];
     filling::fill(file, at, marking, ty, &mut t);
     let n = view::row_counts(file, at);
-    start(file, at, marking, ty, n.homes as usize, memory);
+    clear(file, at, marking, ty, n.homes as usize, memory);
+    give(file, at, marking, ty, &t, memory);
     let body = n.commands as u32 - 1;
     let ran = execute::exec(&t, memory, body, fuel);
     report(at, ran, fuel)

@@ -18,7 +18,9 @@ use Rattle.laws.specs.WellRead.{WellRead}
 use Rattle.laws.specs.Known.{values-good}
 use Rattle.view.specs.declared.ExprRow.{ExprRow}
 use Rattle.view.specs.declared.CommandRow.{CommandRow}
-use Rattle.view.specs.Rows.{homePlace, exprRow, commandRow, valueRow}
+use Rattle.view.specs.declared.HomeRow.{HomeRow}
+use Rattle.view.specs.declared.ValueRow.{ValueRow}
+use Rattle.view.specs.Rows.{homePlace, homeRow, exprRow, commandRow, valueRow, HomeAsked, TypeAsked}
 
 -- ---- a row's meaning
 
@@ -124,3 +126,14 @@ value-in-range {s} {at} known i l =
     let (low, high) = in-range 1 g (half s (at .homes)) a in
     let e : at .homes + 4 * valueRow s at i .home ≡ homePlace at (valueRow s at i .home) + 2 = omega (arith, low) in
     record { first = low; last = high; cell = rw (← e) (ltb-true _ _ b) }
+
+-- So the home of a start row has a row, and so has the type of any home.
+pub value-home : {s : List ℕ} {at : Starts} {i : ℕ} {row : ValueRow} → WellRead s at → i < half s (at .values) → row ≡ valueRow s at i → HomeAsked s at (row .home)
+value-home {i = i} known l is =
+    let names = value-in-range known i l in
+    rw (ap (λ (x : ValueRow). x .home) is) (record { file = known; first = names .first; row = names .last })
+
+pub home-type : {s : List ℕ} {at : Starts} {g : ℕ} {row : HomeRow} → HomeAsked s at g → row ≡ homeRow s at g → TypeAsked s at (row .ty)
+home-type {s} {at} {g} asked is =
+    rw (ap (λ (x : HomeRow). x .ty) is)
+    (record { file = asked .file; row = home-in-range s at (asked .file) g (asked .first) (asked .row) .0 .1 })

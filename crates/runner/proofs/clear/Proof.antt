@@ -4,8 +4,8 @@ use borrow.Author.Needs.{needs}
 use native.Mathlib.Omega.{arith}
 use Rattle.filling.proofs.Words.{known}
 use Rattle.runner.proofs.Cells.{Begun, begun-first, begun-all, begun-room, begun-next, home-type}
-use Rattle.runner.proofs.start.Statement.{statement}
-use Rattle.runner.proofs.start.Tie as tie
+use Rattle.runner.proofs.clear.Statement.{statement}
+use Rattle.runner.proofs.clear.Tie as tie
 
 abbrev Inv-loop : tie.InvT-loop
 Inv-loop file at marking ty n memory₀ g₀ from₀ memory g from = Begun file at marking n g from memory₀ memory
@@ -49,8 +49,8 @@ same-length c = c .before .loop .inv .long
 returns : tie.Need-returns Inv-loop μ-loop
 returns c = begun-all _ _ _ _ (c .before .before .before .before .before .pre .1) _ _ _ _ (c .loop-test .left) (c .before .loop .inv)
 
-pub start-spec : {M : Type 1} → statement M
-start-spec =
+pub clear-spec : {M : Type 1} → statement M
+clear-spec =
     tie.close
     (tie.spec
     Inv-loop

@@ -1,0 +1,107 @@
+-- The start values, row by row: each is written in its cell, over what stands there.
+use mathlib.Core.Path.{_≡_, refl, sym, ap, _∙_}
+use Prim.Native.Nat.{ℕ, zero, suc, _+_, _-_, _<_, _≤_}
+use native.Mathlib.Numerals.{add-one}
+use native.Mathlib.Omega.{arith}
+use mathlib.Core.List.{List, []}
+use lib.ListN.{length, set, length-set, length-append}
+use Rattle.rules.specs.declared.Starts.{Starts}
+use Rattle.rules.specs.Basic.{half}
+use Rattle.rules.specs.Table.{Routine, routine}
+use Rattle.rules.specs.Shape.{homeAt}
+use Rattle.rules.specs.Kinds.{kind}
+use Rattle.rules.specs.Memory.{encode}
+use Rattle.rules.specs.Run.{givenValue, startCells, cleared, given, start}
+use Rattle.rules.specs.Calls.{cellCount}
+use Rattle.laws.specs.WellRead.{WellRead}
+use Rattle.laws.specs.Formed.{Formed}
+use Rattle.laws.specs.Start.{length-start, start-laid, row-below}
+use Rattle.view.specs.declared.HomeRow.{HomeRow}
+use Rattle.view.specs.declared.ValueRow.{ValueRow}
+use Rattle.view.specs.Rows.{homeRow, valueRow}
+use Rattle.view.specs.Means.{home-has, value-home}
+use Rattle.table.specs.Words.{startIn, Homes}
+use Rattle.filling.specs.Filling.{kindAt}
+use Rattle.runner.specs.Whole.{valueEntry, valueCell}
+
+-- ---- an entry
+
+pub given-plain : (k n : ℕ) → k < 3 → n ≡ encode (givenValue (kindAt k) n)
+given-plain zero n l = refl
+given-plain (suc zero) n l = refl
+given-plain (suc (suc zero)) n l = refl
+given-plain (suc (suc (suc k))) n l = absurd (omega arith)
+
+pub given-wild : (k n : ℕ) → 3 ≤ k → n + 4294967296 ≡ encode (givenValue (kindAt k) n)
+given-wild zero n l = absurd (omega arith)
+given-wild (suc zero) n l = absurd (omega arith)
+given-wild (suc (suc zero)) n l = absurd (omega arith)
+given-wild (suc (suc (suc k))) n l = refl
+
+module _ {s : List ℕ} {at : Starts} (known : WellRead s at) {i : ℕ} (less : i < half s (at .values)) {row : ValueRow} (is : row ≡ valueRow s at i) where
+  home-is : row .home ≡ routine s at .value i .home
+  home-is = ap (λ (x : ValueRow). x .home) is
+
+  pub value-entry-is : (m : List ℕ) {home : HomeRow} (k : ℕ) {x : ℕ} → home ≡ homeRow s at (row .home) → kindAt k ≡ kind m (home .ty)
+      → x ≡ encode (givenValue (kindAt k) (row .value)) → x ≡ valueEntry (routine s at) m (routine s at .value i)
+  value-entry-is m {home} k named e h =
+      let asked = value-home known less is in
+      let a : home .ty ≡ homeAt (routine s at .homes) (row .home) .type
+      = ap (λ (x : HomeRow). x .ty) named ∙ home-has s at (row .home) (asked .first) (asked .row) .type in
+      let b : row .value ≡ routine s at .value i .value = ap (λ (x : ValueRow). x .value) is in
+      h ∙ rw (e, a, b, home-is)
+
+  -- ---- its cell
+
+  pub few-homes : row .home < 65
+  few-homes = let asked = value-home known less is in omega (arith, asked .row, known .homes .few)
+
+  module _ (formed : Formed (routine s at)) {t : List ℕ} (homes : Homes (routine s at .homes) t) where
+    start-is : startIn t (row .home) ≡ homeAt (routine s at .homes) (routine s at .value i .home) .start
+    start-is = homes .start (row .home) few-homes ∙ rw home-is
+
+    pub first-address : 1 ≤ startIn t (row .home)
+    first-address = omega (arith, start-is, start-laid (routine s at) [] formed [] .low (formed .values i less .0 .home))
+
+    pub value-cell-is : {from : ℕ} → from ≡ startIn t (row .home) → from + row .cell - 1 ≡ valueCell (routine s at) (routine s at .value i)
+    value-cell-is e = let c : row .cell ≡ routine s at .value i .cell = ap (λ (x : ValueRow). x .cell) is in rw (e, start-is, c)
+
+-- ---- the loop
+
+-- The first i of n rows are written.
+pub record GivenSoFar (s : List ℕ) (at : Starts) (m : List ℕ) (n i : ℕ) (before l : List ℕ) : Type 0 where
+  pub count : n ≡ half s (at .values)
+  pub within : i ≤ n
+  pub long : length l ≡ length before
+  pub same : l ≡ given (routine s at) m i before
+
+pub given-none : (s : List ℕ) (at : Starts) (m : List ℕ) (n : ℕ) (l : List ℕ) → n ≡ half s (at .values) → GivenSoFar s at m n 0 l l
+given-none s at m n l count = record { count = count; within = omega arith; long = refl; same = refl }
+
+module _ {s : List ℕ} {at : Starts} {m : List ℕ} {n i : ℕ} {before l : List ℕ} (so-far : GivenSoFar s at m n i before l) where
+  module _ (less : i < n) {c : ℕ} (cell : c ≡ valueCell (routine s at) (routine s at .value i)) where
+    pub given-near : Formed (routine s at) → c < 4096
+    given-near formed = omega (arith, cell, row-below (routine s at) m formed [] i (rw (so-far .count) at less), formed .few)
+
+    pub given-room : Formed (routine s at) → cellCount (routine s at) ≤ length before → c < length l
+    given-room formed room = omega (arith, cell, row-below (routine s at) m formed [] i (rw (so-far .count) at less), so-far .long)
+
+    pub given-next : {x : ℕ} → x ≡ valueEntry (routine s at) m (routine s at .value i) → GivenSoFar s at m n (i + 1) before (set l c x)
+    given-next entry =
+        record {
+          count = so-far .count;
+          within = omega arith;
+          long = rw length-set (so-far .long);
+          same = rw (cell, entry, so-far .same, add-one i);
+        }
+
+  pub given-all : n ≤ i → l ≡ given (routine s at) m (half s (at .values)) before
+  given-all h = let e : i ≡ half s (at .values) = omega (arith, so-far .count, so-far .within) in rw (← e) (so-far .same)
+
+-- ---- the starting memory
+
+pub cleared-room : (r : Routine) (m lent l : List ℕ) → l ≡ cleared r m lent → cellCount r ≤ length l
+cleared-room r m lent l e = rw (e, length-append, length-start r m) (omega arith)
+
+pub started : (r : Routine) (m lent l k : List ℕ) → l ≡ cleared r m lent → k ≡ given r m (r .values) l → k ≡ start r m lent .memory
+started r m lent l k e f = f ∙ ap (λ z. given r m (r .values) z) e
