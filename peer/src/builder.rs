@@ -2,7 +2,9 @@
 //! number; nothing is judged.
 
 use crate::routine::Routine;
-use crate::rows::{Cmd, Command, Expr, Expression, Home, HomeRow, Operator, Type};
+use crate::rows::{
+    Cmd, Command, Expr, Expression, Home, HomeRow, Operator, Start, StartValue, Type,
+};
 
 #[derive(Clone, Debug, Default)]
 pub struct Builder {
@@ -10,6 +12,8 @@ pub struct Builder {
     pub(crate) homes: Vec<HomeRow>,
     pub(crate) expressions: Vec<Expression>,
     pub(crate) commands: Vec<Command>,
+    /// None for a file that stops after the commands.
+    pub(crate) start_values: Option<Vec<StartValue>>,
 }
 
 impl Builder {
@@ -36,6 +40,12 @@ impl Builder {
     pub fn command(&mut self, row: Command) -> Cmd {
         self.commands.push(row);
         Cmd(self.commands.len() as u16 - 1)
+    }
+
+    pub fn start_value(&mut self, home: Home, cell: u16, value: u32) -> Start {
+        let rows = self.start_values.get_or_insert_with(Vec::new);
+        rows.push(StartValue { home, cell, value });
+        Start(rows.len() as u16 - 1)
     }
 
     pub fn literal(&mut self, n: u32) -> Expr {
@@ -112,6 +122,10 @@ impl Builder {
         file.extend(self.expressions.iter().flat_map(|row| row.encode()));
         file.extend(count(self.commands.len()));
         file.extend(self.commands.iter().flat_map(|row| row.encode()));
+        if let Some(rows) = &self.start_values {
+            file.extend(count(rows.len()));
+            file.extend(rows.iter().flat_map(|row| row.encode()));
+        }
         file
     }
 }
@@ -124,6 +138,7 @@ impl From<&Routine> for Builder {
             homes: routine.homes.clone(),
             expressions: routine.expressions.clone(),
             commands: routine.commands.clone(),
+            start_values: routine.start_values.clone(),
         }
     }
 }

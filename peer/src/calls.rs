@@ -7,12 +7,13 @@ use crate::refusal::{Lent, Reason, Refusal};
 use crate::routine::Routine;
 use crate::run::{run, Answer};
 
-/// Refusals 1 to 6, then 7 and 8.
+/// Those of a file, which are 1 to 6 and 10, then 7 and 8.
 pub fn check_file(file: &[u8], marking: &[u8]) -> Result<(), Refusal> {
     accept(file, marking).map(|_| ())
 }
 
-/// Fills a lent marking with the least acceptable one: refusals 1 to 6, then 9.
+/// Fills a lent marking with the least acceptable one: a file's refusals, then
+/// 9.
 pub fn infer_file(file: &[u8], lent: &mut [u8]) -> Result<(), Refusal> {
     let routine = read(file)?;
     let needed = routine.type_count();
@@ -25,7 +26,7 @@ pub fn infer_file(file: &[u8], lent: &mut [u8]) -> Result<(), Refusal> {
     Ok(())
 }
 
-/// Runs a file under a marking: refusals 1 to 6, 7, 8, then 9.
+/// Runs a file under a marking: a file's refusals, 7, 8, then 9.
 pub fn run_file(
     file: &[u8],
     marking: &[u8],

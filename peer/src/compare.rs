@@ -7,7 +7,7 @@ use std::path::{Path, PathBuf};
 use std::process::{Command, Stdio};
 use std::thread;
 
-use crate::generate::Generator;
+use crate::generate::{at_limits, Generator};
 use crate::kinds;
 use crate::probe::{serve, Request};
 use crate::report::Report;
@@ -28,9 +28,10 @@ const CHUNK: u64 = 1000;
 /// Streams with a bad request that are sent beside each chunk.
 const BAD_STREAMS: usize = 5;
 
-/// One file in so many is given to `kinds`, a process each, up to a limit.
+/// One file in so many is given to `kinds`, a process each, and every file at
+/// the limits of the format, up to a number of files.
 const KINDS_EVERY: u64 = 20;
-const MOST_KINDS: u64 = 1000;
+const MOST_KINDS: u64 = 1500;
 
 /// An input on which a program differs from this one.
 struct Difference {
@@ -125,7 +126,8 @@ impl Comparison {
         }
         if let Some(program) = &self.kinds {
             for (index, request) in requests {
-                if index % KINDS_EVERY == 0 && *kinds_left > 0 {
+                let given = index % KINDS_EVERY == 0 || at_limits(*index);
+                if given && *kinds_left > 0 {
                     *kinds_left -= 1;
                     let difference = compare_kinds(program, *index, request)?;
                     if difference.is_some() {

@@ -1,14 +1,15 @@
 //! A routine under a marking, row by row: why each type has its kind, the
-//! checks that each access and conversion makes, and those that it does not
-//! need, with the rule that spares them.
+//! checks that each access and conversion makes, those that it does not need,
+//! with the rule that spares them, and what each start value's cell holds.
 
 use std::fmt::{self, Write};
 
 use crate::kind::{check, Kind, Marking};
-use crate::memory::Layout;
+use crate::memory::{start_value, Layout};
 use crate::routine::Routine;
-use crate::rows::{Command, Expr, Expression, Operator, Type};
+use crate::rows::{Command, Expr, Expression, Operator, StartValue, Type};
 use crate::text::RowText;
+use crate::value::Value;
 use crate::wording::{breach, count, remarked, SUBJECTS};
 
 /// One check at one row, and why it is made there or left out.
@@ -99,6 +100,7 @@ pub fn list(routine: &Routine, marking: &Marking) -> String {
     listing.homes();
     listing.expressions();
     listing.commands();
+    listing.values();
     listing.summary();
     listing.text
 }
@@ -247,6 +249,32 @@ impl Listing<'_> {
                 self.conversion("value", value, cell);
             }
         }
+    }
+
+    fn values(&mut self) {
+        if !self.routine.has_values() {
+            return;
+        }
+        self.line(format_args!("values"));
+        for (start, row) in self.routine.start_values() {
+            let remark = self.start(row);
+            self.row(start, RowText::StartValue(row), &remark);
+        }
+    }
+
+    /// What a start value's cell holds, and why.
+    fn start(&self, row: StartValue) -> String {
+        let (home, cell) = (row.home.0, row.cell);
+        let of = self.routine.home(row.home).of;
+        let kind = self.marking.kind(of).unwrap_or(Kind::Safe);
+        let (value, why) = match start_value(self.routine, self.marking, row) {
+            Value::Number(n) => (format!("the number {n}"), "so its int cells hold numbers"),
+            Value::Pair(_, n) => (
+                format!("pair (0, {n})"),
+                "so all its cells hold pairs, a number as one of home 0",
+            ),
+        };
+        format!("cell {cell} of home {home} starts as {value}: the home is {kind}, {why}")
     }
 
     fn access(&mut self, what: &str, pointer: Expr) {

@@ -58,10 +58,11 @@ the file or the marking is refused.",
         words: "FILE [MARKING]",
         options: &[],
         plain: 1..=2,
-        does: "print why each type has its kind, and each row's checks",
+        does: "print why each type has its kind, each row's checks, and the start values",
         more: "\
 The kinds are those of MARKING, or else of the least marking. The reason of a
-kind is the first row that would break a rule if that type alone were lower. The
+kind is the first row that would break a rule if that type alone were lower. Of
+a start value it tells what its cell holds, a number or a pair, and why. The
 status is 1 if the file or the marking is refused.",
         act: run_list,
     },

@@ -2,7 +2,7 @@
 
 use crate::kind::{Kind, Marking};
 use crate::routine::Routine;
-use crate::rows::Home;
+use crate::rows::{Home, StartValue};
 use crate::value::Value;
 
 /// Start and size of every home, the null home first.
@@ -59,11 +59,34 @@ impl Layout {
     }
 }
 
-/// The values of all cells when a run begins, in address order.
-pub fn starting_cells<'a>(
-    routine: &'a Routine,
-    marking: &'a Marking,
-) -> impl Iterator<Item = Value> + 'a {
+/// The index of the cell at an address that is not 0: homes follow one another
+/// from address 1, so cells are in address order.
+pub fn cell_index(address: u32) -> usize {
+    address as usize - 1
+}
+
+/// Writes the starting memory over the cells.
+pub fn write_start(routine: &Routine, marking: &Marking, layout: &Layout, cells: &mut [u64]) {
+    for (entry, value) in cells.iter_mut().zip(unset_cells(routine, marking)) {
+        *entry = value.to_entry();
+    }
+    for (_, row) in routine.start_values() {
+        let address = layout.address(row.home, u32::from(row.cell));
+        cells[cell_index(address)] = start_value(routine, marking, row).to_entry();
+    }
+}
+
+/// What the cell of a start value holds when a run begins.
+pub fn start_value(routine: &Routine, marking: &Marking, row: StartValue) -> Value {
+    match marking.kind(routine.home(row.home).of) {
+        Some(Kind::Dynamic) => Value::Pair(Home::NULL, row.value),
+        _ => Value::Number(row.value),
+    }
+}
+
+/// What all cells hold when a run begins, if no start value is given for them,
+/// in address order.
+fn unset_cells<'a>(routine: &'a Routine, marking: &'a Marking) -> impl Iterator<Item = Value> + 'a {
     routine.homes().flat_map(move |(_, row)| {
         let value = match (marking.kind(row.of), marking.kind(routine.element(row))) {
             (Some(Kind::Dynamic), _) => Value::NULL_PAIR,

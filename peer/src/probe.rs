@@ -76,8 +76,8 @@ impl Request {
         match &self.call {
             Call::Read => match read(&self.file) {
                 Ok(routine) => {
-                    let [a, b, c, d] = routine.starts();
-                    format!("read {a} {b} {c} {d}")
+                    let [a, b, c, d, e] = routine.starts();
+                    format!("read {a} {b} {c} {d} {e}")
                 }
                 Err(refusal) => refused(refusal),
             },

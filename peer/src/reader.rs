@@ -1,15 +1,37 @@
-//! From a file's bytes to a routine: refusals 1 to 6.
+//! From a file's bytes to a routine: refusals 1 to 6 and 10.
 
-use crate::refusal::{Due, Needed, Reason, Refusal};
+use std::cmp::Ordering;
+
+use crate::refusal::{Due, Fall, Needed, Reason, Refusal};
 use crate::routine::Routine;
-use crate::rows::{Command, Expr, Expression, Flaw, HomeRow, Scope, Section, Type, MOST_CELLS};
+use crate::rows::{
+    Command, Expr, Expression, Flaw, HomeRow, Scope, Section, StartValue, Type, MOST_CELLS,
+};
 
 /// Reads a well-formed routine, or says why the file is none.
 pub fn read(file: &[u8]) -> Result<Routine, Refusal> {
     let mut routine = read_rows(file)?;
-    check_cells(&routine)?;
-    check_shapes(&mut routine)?;
-    Ok(routine)
+    let first = judge(&mut routine).next();
+    first.map_or(Ok(routine), Err)
+}
+
+/// All that a file of whole and good rows is refused for, the refusal that
+/// [`read`] gives first; none of a file that earns one of 1 to 4.
+pub fn earned(file: &[u8]) -> Vec<Refusal> {
+    let rows = read_rows(file);
+    rows.map_or_else(|_| Vec::new(), |mut routine| judge(&mut routine).collect())
+}
+
+/// The first refusal of each check on the rows together, in the order in
+/// which one is given.
+fn judge(routine: &mut Routine) -> impl Iterator<Item = Refusal> {
+    let checks = [
+        check_cells(routine),
+        check_rising(routine),
+        check_shapes(routine),
+        check_values(routine),
+    ];
+    checks.into_iter().filter_map(Result::err)
 }
 
 /// A place in the file, moving front to back.
@@ -61,10 +83,10 @@ impl Cursor<'_> {
     }
 }
 
-/// The four sections, each row judged by itself: refusals 1 to 4.
+/// The five sections, each row judged by itself: refusals 1 to 4.
 fn read_rows(file: &[u8]) -> Result<Routine, Refusal> {
     let mut cursor = Cursor { file, place: 0 };
-    let mut starts = [0; 4];
+    let mut starts = [0; 5];
     let mut scope = Scope {
         types: 0,
         homes: 0,
@@ -102,6 +124,17 @@ fn read_rows(file: &[u8]) -> Result<Routine, Refusal> {
         row.check_range(Scope { commands, ..scope }).map(|()| row)
     })?;
 
+    starts[4] = cursor.place;
+    let start_values = if cursor.place < file.len() {
+        let rows = cursor.rows(Section::Values, |bytes, _| {
+            let row = StartValue::decode(bytes);
+            row.check_range(&homes).map(|()| row)
+        })?;
+        Some(rows)
+    } else {
+        None
+    };
+
     if cursor.place < file.len() {
         return Err(Refusal::new(Reason::SpareBytes, cursor.place));
     }
@@ -110,6 +143,7 @@ fn read_rows(file: &[u8]) -> Result<Routine, Refusal> {
         homes,
         expressions,
         commands,
+        start_values,
         types_of: Vec::new(),
         starts,
     })
@@ -127,7 +161,24 @@ fn check_cells(routine: &Routine) -> Result<(), Refusal> {
     Ok(())
 }
 
-/// Refusal 6; it gives each expression its type on the way.
+/// Refusal 10.
+fn check_rising(routine: &Routine) -> Result<(), Refusal> {
+    let later = routine.start_values().skip(1);
+    for ((_, before), (start, row)) in routine.start_values().zip(later) {
+        let fall = match row.position().cmp(&before.position()) {
+            Ordering::Greater => continue,
+            Ordering::Equal => Fall::SameCell,
+            Ordering::Less if row.home == before.home => Fall::LowerCell,
+            Ordering::Less => Fall::LowerHome,
+        };
+        let place = routine.start_place(start);
+        return Err(Refusal::new(Reason::NotRising(fall), place));
+    }
+    Ok(())
+}
+
+/// Refusal 6 over expressions and commands; it gives each expression its type
+/// on the way.
 fn check_shapes(routine: &mut Routine) -> Result<(), Refusal> {
     routine.types_of = Vec::with_capacity(routine.expressions.len());
     for row in 0..routine.expressions.len() {
@@ -192,4 +243,15 @@ fn check_command(routine: &Routine, command: Command) -> Result<(), Needed> {
         Command::Store { pointer, .. } => reference(routine, pointer).map(|_| ()),
         Command::If { condition, .. } | Command::While { condition, .. } => int(routine, condition),
     }
+}
+
+/// Refusal 6 over start values.
+fn check_values(routine: &Routine) -> Result<(), Refusal> {
+    for (start, row) in routine.start_values() {
+        if !routine.element(routine.home(row.home)).is_int() {
+            let reason = Reason::Shape(Section::Values, Needed::Int);
+            return Err(Refusal::new(reason, routine.start_place(start)));
+        }
+    }
+    Ok(())
 }

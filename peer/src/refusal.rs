@@ -1,4 +1,4 @@
-//! The nine numbers that say no, each with its place and its reason in words.
+//! The ten numbers that say no, each with its place and its reason in words.
 
 use std::fmt;
 
@@ -17,6 +17,25 @@ pub enum Due {
 pub enum Needed {
     Int,
     Reference,
+}
+
+/// How a start value's row does not rise above the row before it.
+#[derive(Clone, Copy, Debug, PartialEq, Eq, Hash)]
+pub enum Fall {
+    SameCell,
+    /// In the same home.
+    LowerCell,
+    LowerHome,
+}
+
+impl fmt::Display for Fall {
+    fn fmt(&self, f: &mut fmt::Formatter<'_>) -> fmt::Result {
+        f.write_str(match self {
+            Fall::SameCell => "this row is for the same cell as the row before it",
+            Fall::LowerCell => "this row is for a lower cell than the row before it",
+            Fall::LowerHome => "this row is for a lower home than the row before it",
+        })
+    }
 }
 
 /// The rules that a marking can break.
@@ -62,6 +81,7 @@ pub enum Reason {
     BadRow(Section, Flaw),
     SpareBytes,
     TooManyCells,
+    NotRising(Fall),
     Shape(Section, Needed),
     MarkingLength { given: usize, types: usize },
     MarkingByte(u8),
@@ -92,6 +112,7 @@ impl Refusal {
             Reason::MarkingLength { .. } | Reason::MarkingByte(_) => 7,
             Reason::Kind(_) => 8,
             Reason::TooShort(_) => 9,
+            Reason::NotRising(_) => 10,
         }
     }
 
@@ -134,8 +155,12 @@ impl fmt::Display for Reason {
             Reason::BadRow(section, flaw) => {
                 write!(f, "in this {} row, {flaw}", section.row_name())
             }
-            Reason::SpareBytes => f.write_str("bytes follow the commands"),
+            Reason::SpareBytes => f.write_str("bytes follow the start values"),
             Reason::TooManyCells => f.write_str("with this home the cells exceed 4096"),
+            Reason::NotRising(fall) => fall.fmt(f),
+            Reason::Shape(Section::Values, _) => {
+                f.write_str("the cells of this home are references, and a start value is an int")
+            }
             Reason::Shape(_, Needed::Int) => {
                 f.write_str("an operand is a reference where an int is needed")
             }

@@ -1,7 +1,9 @@
 //! A well-formed routine: its rows in vectors, where each stands in the file,
 //! and the type of every expression.
 
-use crate::rows::{Cmd, Command, Expr, Expression, Home, HomeRow, Section, Type};
+use crate::rows::{
+    Cmd, Command, Expr, Expression, Home, HomeRow, Section, Start, StartValue, Type,
+};
 
 #[derive(Clone, Debug, PartialEq, Eq)]
 pub struct Routine {
@@ -11,10 +13,12 @@ pub struct Routine {
     pub(crate) homes: Vec<HomeRow>,
     pub(crate) expressions: Vec<Expression>,
     pub(crate) commands: Vec<Command>,
+    /// None where the file stops after the commands.
+    pub(crate) start_values: Option<Vec<StartValue>>,
     /// The type of each expression.
     pub(crate) types_of: Vec<Type>,
-    /// The places of the four counts.
-    pub(crate) starts: [usize; 4],
+    /// The places of the five counts.
+    pub(crate) starts: [usize; 5],
 }
 
 impl Routine {
@@ -76,8 +80,19 @@ impl Routine {
         Cmd(self.commands.len() as u16 - 1)
     }
 
-    /// The places of the four counts.
-    pub fn starts(&self) -> [usize; 4] {
+    /// Is there a fifth section, even one of no rows?
+    pub fn has_values(&self) -> bool {
+        self.start_values.is_some()
+    }
+
+    pub fn start_values(&self) -> impl Iterator<Item = (Start, StartValue)> + '_ {
+        let rows = self.start_values.iter().flatten().copied();
+        (0..).map(Start).zip(rows)
+    }
+
+    /// The places of the five counts; the last is the file's end where there
+    /// is no fifth section.
+    pub fn starts(&self) -> [usize; 5] {
         self.starts
     }
 
@@ -99,6 +114,10 @@ impl Routine {
 
     pub fn command_place(&self, c: Cmd) -> usize {
         self.row_place(Section::Commands, usize::from(c.0))
+    }
+
+    pub fn start_place(&self, start: Start) -> usize {
+        self.row_place(Section::Values, usize::from(start.0))
     }
 
     /// The section and the index of the row at this place.

@@ -1,23 +1,26 @@
-//! The rows of the four sections: their meaning as enums, their bytes, and
+//! The rows of the five sections: their meaning as enums, their bytes, and
 //! the ways in which a whole row can be wrong.
 
 use std::fmt;
 
-/// The four sections of a routine file, in file order.
+/// The five sections of a routine file, in file order. A file may stop before
+/// the last.
 #[derive(Clone, Copy, Debug, PartialEq, Eq, PartialOrd, Ord, Hash)]
 pub enum Section {
     Types,
     Homes,
     Expressions,
     Commands,
+    Values,
 }
 
 impl Section {
-    pub const ALL: [Section; 4] = [
+    pub const ALL: [Section; 5] = [
         Section::Types,
         Section::Homes,
         Section::Expressions,
         Section::Commands,
+        Section::Values,
     ];
 
     pub const fn row_bytes(self) -> usize {
@@ -26,6 +29,7 @@ impl Section {
             Section::Homes => 4,
             Section::Expressions => 5,
             Section::Commands => 7,
+            Section::Values => 8,
         }
     }
 
@@ -35,6 +39,7 @@ impl Section {
             Section::Types => 255,
             Section::Homes => 64,
             Section::Expressions | Section::Commands => 1024,
+            Section::Values => 256,
         }
     }
 
@@ -44,6 +49,7 @@ impl Section {
             Section::Homes => "homes",
             Section::Expressions => "expressions",
             Section::Commands => "commands",
+            Section::Values => "values",
         }
     }
 
@@ -54,12 +60,21 @@ impl Section {
             Section::Homes => "home",
             Section::Expressions => "expression",
             Section::Commands => "command",
+            Section::Values => "start value",
+        }
+    }
+
+    /// The number of the section's first row.
+    pub const fn first_number(self) -> usize {
+        match self {
+            Section::Types | Section::Homes => 1,
+            Section::Expressions | Section::Commands | Section::Values => 0,
         }
     }
 }
 
-/// The bytes of the longest file: four counts and every section full.
-pub const LONGEST_FILE: usize = 13_062;
+/// The bytes of the longest file: five counts and every section full.
+pub const LONGEST_FILE: usize = 15_112;
 
 /// The most cells that one home may have.
 pub const LARGEST_HOME: u16 = 1024;
@@ -95,11 +110,23 @@ pub struct Expr(pub u16);
 #[derive(Clone, Copy, Debug, PartialEq, Eq, PartialOrd, Ord, Hash)]
 pub struct Cmd(pub u16);
 
+/// A start value row's number, from 0.
+#[derive(Clone, Copy, Debug, PartialEq, Eq, PartialOrd, Ord, Hash)]
+pub struct Start(pub u16);
+
 /// A home row: the type that the home has as a variable, and its cells.
 #[derive(Clone, Copy, Debug, PartialEq, Eq)]
 pub struct HomeRow {
     pub of: Type,
     pub size: u16,
+}
+
+/// A start value row: the number that a cell holds when a run begins.
+#[derive(Clone, Copy, Debug, PartialEq, Eq)]
+pub struct StartValue {
+    pub home: Home,
+    pub cell: u16,
+    pub value: u32,
 }
 
 #[derive(Clone, Copy, Debug, PartialEq, Eq, Hash)]
@@ -411,5 +438,34 @@ impl Command {
                 earlier("command b", body)
             }
         }
+    }
+}
+
+impl StartValue {
+    pub fn decode([h0, h1, c0, c1, v0, v1, v2, v3]: [u8; 8]) -> StartValue {
+        StartValue {
+            home: Home(u16::from_le_bytes([h0, h1])),
+            cell: u16::from_le_bytes([c0, c1]),
+            value: u32::from_le_bytes([v0, v1, v2, v3]),
+        }
+    }
+
+    pub fn encode(self) -> [u8; 8] {
+        let [h0, h1] = self.home.0.to_le_bytes();
+        let [c0, c1] = self.cell.to_le_bytes();
+        let [v0, v1, v2, v3] = self.value.to_le_bytes();
+        [h0, h1, c0, c1, v0, v1, v2, v3]
+    }
+
+    /// The home is one of these, and the cell one of its cells.
+    pub fn check_range(self, homes: &[HomeRow]) -> Result<(), Flaw> {
+        within("home", self.home.0, 1..homes.len() + 1)?;
+        let size = homes[usize::from(self.home.0) - 1].size;
+        within("cell", self.cell, 0..usize::from(size))
+    }
+
+    /// What rises strictly from row to row.
+    pub fn position(self) -> (Home, u16) {
+        (self.home, self.cell)
     }
 }

@@ -6,7 +6,7 @@
 use std::fmt;
 
 use crate::kind::{Kind, Marking};
-use crate::memory::{starting_cells, Layout};
+use crate::memory::{cell_index, write_start, Layout};
 use crate::refusal::{Lent, Reason, Refusal};
 use crate::routine::Routine;
 use crate::rows::{Cmd, Command, Expr, Expression, Home, Operator, Type};
@@ -101,15 +101,14 @@ pub fn run_watched<W: Watch>(
     let Some(cells) = memory.get_mut(..needed) else {
         return Err(Refusal::new(Reason::TooShort(Lent::Memory), needed));
     };
-    for (entry, value) in cells.iter_mut().zip(starting_cells(routine, marking)) {
-        *entry = value.to_entry();
-    }
+    let layout = Layout::new(routine);
+    write_start(routine, marking, &layout, cells);
     watch.started(cells);
 
     let mut machine = Machine {
         routine,
         marking,
-        layout: Layout::new(routine),
+        layout,
         cells,
         fuel,
         watch,
@@ -333,8 +332,7 @@ impl<W: Watch> Machine<'_, W> {
             }
             _ => return Err(Halt::STUCK),
         };
-        // Homes follow one another from address 1, so cells are in address order.
-        let index = address as usize - 1;
+        let index = cell_index(address);
         if index < self.cells.len() {
             Ok(index)
         } else {

@@ -21,6 +21,13 @@ commands
   c0 = store through e2 value e3
 ";
 
+/// Start values for the first and the last of the cells.
+const VALUES: &str = "\
+values
+  v0 = home h1 cell 0 value 5
+  v1 = home h1 cell 2 value 0x9
+";
+
 /// The status, and all that is printed, of the program with these words.
 fn peer(words: &[&str], input: &[u8]) -> (Option<i32>, String, String) {
     let mut child = Command::new(env!("CARGO_BIN_EXE_peer"))
@@ -48,6 +55,11 @@ fn bytes(text: &str) -> Vec<u8> {
 
 fn routine() -> Vec<u8> {
     bytes(ROUTINE)
+}
+
+/// The routine with start values.
+fn valued() -> Vec<u8> {
+    bytes(&format!("{ROUTINE}{VALUES}"))
 }
 
 /// The routine with a piece of its text replaced.
@@ -134,6 +146,139 @@ refused 6 at byte 22: an operand is a reference where an int is needed
     let plus = changed("sum e0 plus e1", "e0 + e1");
     for words in [["run", "-"], ["list", "-"]] {
         expect(&words, &plus, 1, printed);
+    }
+}
+
+#[test]
+fn a_run_with_start_values() {
+    let printed = "\
+fuel 34 0
+the fuel was used up, after 0 units; the row at place 34 was next
+  c0 = store through e2 value e3
+home 1, t1 SEQ, cells of int
+  cell 0 = 5
+  cell 1 = 0
+  cell 2 = 9
+";
+    expect(&["run", "-", "--fuel", "0"], &valued(), 0, printed);
+    let printed = "\
+done 0 5
+the body ended, after 5 units
+home 1, t1 DYNAMIC, cells of int
+  cell 0 = pair (0, 5), the number 5
+  cell 1 = pair (0, 0), null or 0
+  cell 2 = pair (0, 7), the number 7
+";
+    let dynamic = saved("values-dynamic", &[2]);
+    expect(&["run", "-", &dynamic], &valued(), 0, printed);
+}
+
+#[test]
+fn start_values_that_are_refused() {
+    let refused = |values: &str, printed: &str| {
+        let file = bytes(&format!("{ROUTINE}{values}"));
+        expect(&["run", "-"], &file, 1, printed);
+    };
+    refused(
+        "values\n v0 = home h1 cell 1 value 5\n v1 = home h1 cell 0 value 6",
+        "\
+refused 10 at byte 51: this row is for a lower cell than the row before it
+  v1 = home h1 cell 0 value 6
+",
+    );
+    refused(
+        "values\n v0 = home h1 cell 3 value 5",
+        "\
+refused 3 at byte 43: in this start value row, cell is 3, outside its range
+  v0 = home h1 cell 3 value 5
+",
+    );
+    refused(
+        "values 300",
+        "refused 2 at byte 41: a count of 300 values, over the limit of 256\n",
+    );
+    refused(
+        "bytes 2a",
+        "refused 1 at byte 41: the file ends before the count of values\n",
+    );
+    refused(
+        "values\n bytes 2a",
+        "refused 4 at byte 43: bytes follow the start values\n",
+    );
+    let references = ROUTINE
+        .replace("homes", "  t2 = ref t1\nhomes")
+        .replace("size 3", "size 3\n  h2 = t2 size 1");
+    let file = bytes(&format!("{references}values\n v0 = home h2 cell 0 value 5"));
+    let printed = "\
+refused 6 at byte 49: the cells of this home are references, and a start value is an int
+  v0 = home h2 cell 0 value 5
+";
+    expect(&["run", "-"], &file, 1, printed);
+}
+
+#[test]
+fn start_values_listed() {
+    let listed = |words: &[&str]| {
+        let (status, printed, _) = peer(words, &valued());
+        assert_eq!(status, Some(0));
+        let values = printed.lines().skip_while(|line| *line != "values").skip(1);
+        let rows = values.take_while(|line| *line != "checks");
+        rows.map(str::to_string).collect::<Vec<_>>()
+    };
+    let expected = [
+        "  v0 = home h1 cell 0 value 5         cell 0 of home 1 starts as the number 5: the home \
+         is SEQ, so its int cells hold numbers",
+        "  v1 = home h1 cell 2 value 9         cell 2 of home 1 starts as the number 9: the home \
+         is SEQ, so its int cells hold numbers",
+    ];
+    assert_eq!(listed(&["list", "-"]), expected);
+    let expected = [
+        "  v0 = home h1 cell 0 value 5         cell 0 of home 1 starts as pair (0, 5): the home \
+         is DYNAMIC, so all its cells hold pairs, a number as one of home 0",
+        "  v1 = home h1 cell 2 value 9         cell 2 of home 1 starts as pair (0, 9): the home \
+         is DYNAMIC, so all its cells hold pairs, a number as one of home 0",
+    ];
+    let dynamic = saved("list-dynamic", &[2]);
+    assert_eq!(listed(&["list", "-", &dynamic]), expected);
+}
+
+#[test]
+fn text_of_start_values() {
+    let values = |file: &[u8]| {
+        let (status, printed, _) = peer(&["text", "-"], file);
+        assert_eq!(status, Some(0));
+        let rows = printed.lines().skip_while(|line| !line.starts_with("v"));
+        rows.map(str::to_string).collect::<Vec<_>>()
+    };
+    let expected = [
+        "values                                       # 41",
+        "  v0 = home h1 cell 0 value 5                # 43",
+        "  v1 = home h1 cell 2 value 9                # 51",
+    ];
+    assert_eq!(values(&valued()), expected);
+    // A row is cut short.
+    let mut cut = valued();
+    cut.truncate(54);
+    let expected = [
+        "values 2                                     # 41",
+        "  v0 = home h1 cell 0 value 5                # 43",
+        "bytes 01 00 02                               # 51",
+    ];
+    assert_eq!(values(&cut), expected);
+    assert_eq!(bytes(&text::print(&cut)), cut);
+    assert_eq!(bytes(&format!("{ROUTINE}values 0x12c"))[41..], [0x2c, 1]);
+    for wrong in [
+        "values\n v1 = home h1 cell 0 value 5",
+        "values\n v0 = home h1 cell 0",
+        "values\n v0 = home h1 cell 65536 value 5",
+        "values\n v0 = home h1 cell 0 value 4294967296",
+        "values\n v0 = row 1 2 3",
+        "values\n v0 = home h1 cell 0 value 5\ncommands",
+    ] {
+        assert!(
+            text::parse(&format!("{ROUTINE}{wrong}")).is_err(),
+            "{wrong}"
+        );
     }
 }
 

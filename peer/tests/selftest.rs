@@ -2,6 +2,6 @@
 
 #[test]
 fn generated_files() {
-    let tally = peer::selftest::test(1500);
+    let tally = peer::selftest::test(1700);
     assert_eq!(tally.failed, 0, "{:#?}", tally.failures);
 }

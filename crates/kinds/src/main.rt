@@ -104,8 +104,8 @@ fn answer(file: &[u8], marking: &mut [u8]) {
 }
 
 fn main() {
-    // The first 13,063 bytes decide every answer: `FirstBytesDecide` of the laws.
-    let mut file = [0u8; 13063];
+    // The first 15,113 bytes decide every answer: `FirstBytesDecide` of the laws.
+    let mut file = [0u8; 15113];
     let mut marking = [0u8; 255];
     let got = io::read_full(STDIN_FILENO, &mut file);
     answer(&file[..got], &mut marking);

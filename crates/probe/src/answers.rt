@@ -9,6 +9,7 @@ use rules::ReadAnswer;
 use rules::Refusal;
 use rules::Report;
 use rules::RunAnswer;
+use rules::Starts;
 
 // A blank and a number.
 fn put_next(out: &mut [u8], at: usize, n: u64) -> usize {
@@ -46,15 +47,21 @@ fn put_report(out: &mut [u8], at: usize, r: Report) -> usize {
     put_next(out, end, r.units as u64)
 }
 
-// `R`: the places of the four counts.
+// The places of the counts that every file has.
+fn put_places(out: &mut [u8], at: usize, s: Starts) -> usize {
+    let types = put_next(out, at, s.types as u64);
+    let homes = put_next(out, types, s.homes as u64);
+    let exprs = put_next(out, homes, s.exprs as u64);
+    put_next(out, exprs, s.commands as u64)
+}
+
+// `R`: the places of the five counts.
 pub fn put_read(out: &mut [u8], at: usize, answer: ReadAnswer) -> usize {
     match answer {
         ReadAnswer::WellFormed(s) => {
             let word = put_word(out, at, b"read");
-            let types = put_next(out, word, s.types as u64);
-            let homes = put_next(out, types, s.homes as u64);
-            let exprs = put_next(out, homes, s.exprs as u64);
-            put_next(out, exprs, s.commands as u64)
+            let places = put_places(out, word, s);
+            put_next(out, places, s.values as u64)
         }
         ReadAnswer::Refused(r) => put_refusal(out, at, r),
     }

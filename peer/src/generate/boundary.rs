@@ -1,12 +1,13 @@
 //! Files at the limits of the format and just past them.
 
+use super::values::{int_cells, some_values, MOST_VALUES};
 use crate::builder::Builder;
 use crate::random::Random;
 use crate::rows::{Cmd, Expr, Expression, Home, Operator, Section, Type, LONGEST_FILE};
 use crate::samples;
 
 /// The number of boundary files there are; each has variants by chance.
-pub const BOUNDARIES: u64 = 22;
+pub const BOUNDARIES: u64 = 25;
 
 /// The most bytes that a request's file can have.
 const LONGEST_SENT: usize = 65_535;
@@ -29,7 +30,7 @@ pub fn boundary(which: u64, random: &mut Random) -> Vec<u8> {
         }
         10 => {
             let mut file = longest(random);
-            file.pop();
+            file.truncate(LONGEST_FILE - random.between(1, 9) as usize);
             file
         }
         11 => {
@@ -39,14 +40,16 @@ pub fn boundary(which: u64, random: &mut Random) -> Vec<u8> {
             file
         }
         12 => {
-            let length = random.pick(&[13_062, 13_063, 20_000, LONGEST_SENT]);
+            let length = random.pick(&[LONGEST_FILE, LONGEST_FILE + 1, 20_000, LONGEST_SENT]);
             random.bytes(length)
         }
-        13..=16 => high_count(random, Section::ALL[which as usize - 13]),
-        17 => samples::rising_seq().file(),
-        18 => samples::falling_dynamic().file(),
-        19 => samples::deep_pairs().file(),
-        20 => samples::ladder().file(),
+        13..=17 => high_count(random, Section::ALL[which as usize - 13]),
+        18 => full_values(random).file(),
+        19 => four_full(random),
+        20 => samples::rising_seq().file(),
+        21 => samples::falling_dynamic().file(),
+        22 => samples::deep_pairs().file(),
+        23 => samples::ladder().file(),
         _ => {
             let mut file = samples::ladder().file();
             let index = random.index(file.len());
@@ -170,7 +173,8 @@ fn deep_command(random: &mut Random, expressions: usize) -> Builder {
     b
 }
 
-/// Homes of so many cells together: few of them large, or all 64.
+/// Homes of so many cells together: few of them large, or all 64. Some of the
+/// last cells may have start values.
 fn homes_of(random: &mut Random, cells: u16) -> Builder {
     let mut b = Builder::new();
     let t1 = b.reference(Type::INT);
@@ -194,13 +198,60 @@ fn homes_of(random: &mut Random, cells: u16) -> Builder {
     let pointer = b.sum(pointer, end);
     let value = b.cast(pointer, if last.of == t1 { Type::INT } else { t1 });
     b.store(pointer, value);
+    if random.percent(50) {
+        let cells = int_cells(&b);
+        let last = &cells[cells.len().saturating_sub(20)..];
+        b.start_values = Some(some_values(random, last, 15));
+    }
     b
 }
 
-/// A file of 13,062 bytes, every section full.
+/// 256 start values in one home, or over many of either of two types. The
+/// body asks for the last of them.
+fn full_values(random: &mut Random) -> Builder {
+    let mut b = Builder::new();
+    let types = [b.reference(Type::INT), b.reference(Type::INT)];
+    let (homes, size) = random.pick(&[(1, 256), (1, 1024), (2, 128), (4, 1024), (64, 4)]);
+    for _ in 0..homes {
+        let of = random.pick(&types);
+        b.home(of, size);
+    }
+    let rows = some_values(random, &int_cells(&b), MOST_VALUES);
+    let last = rows[rows.len() - 1];
+    b.start_values = Some(rows);
+    let first = b.at(Home(1));
+    let mut pointer = b.at(last.home);
+    if last.cell > 0 {
+        let offset = b.literal(u32::from(last.cell));
+        pointer = b.sum(pointer, offset);
+    }
+    let value = b.read(pointer);
+    let note = b.store(first, value);
+    let skip = b.skip();
+    b.choose(value, note, skip);
+    b
+}
+
+/// Every section full but the fifth, which is not there, or cut, or has no
+/// rows.
+fn four_full(random: &mut Random) -> Vec<u8> {
+    let mut b = full_sections(random);
+    b.start_values = None;
+    let mut file = b.file();
+    let fifth: &[u8] = random.pick(&[&[], &[], &[0][..], &[0, 0], &[0, 1], &[1, 1], &[0, 0, 0]]);
+    file.extend(fifth);
+    file
+}
+
+/// A file of 15,112 bytes.
 fn longest(random: &mut Random) -> Vec<u8> {
+    full_sections(random).file()
+}
+
+/// Every section full.
+fn full_sections(random: &mut Random) -> Builder {
     if random.percent(30) {
-        return samples::longest().file();
+        return samples::longest();
     }
     let mut b = Builder::new();
     for number in 0..255 {
@@ -243,16 +294,18 @@ fn longest(random: &mut Random) -> Vec<u8> {
             }
         };
     }
-    b.file()
+    b.start_values = Some(some_values(random, &int_cells(&b), MOST_VALUES));
+    b
 }
 
 /// A section with one row more than allowed, or a count far over.
 fn high_count(random: &mut Random, section: Section) -> Vec<u8> {
     let mut b = Builder::new();
     let t = b.reference(Type::INT);
-    b.home(t, 1);
+    let home = b.home(t, 300);
     b.expression(Expression::Literal(7));
     b.skip();
+    b.start_value(home, 0, 1);
     let rows = usize::from(section.limit()) + 1;
     if random.percent(50) {
         match section {
@@ -260,10 +313,15 @@ fn high_count(random: &mut Random, section: Section) -> Vec<u8> {
             Section::Homes => b.homes.resize(rows, b.homes[0]),
             Section::Expressions => b.expressions.resize(rows, b.expressions[0]),
             Section::Commands => b.commands.resize(rows, b.commands[0]),
+            Section::Values => {
+                for cell in 1..rows {
+                    b.start_value(home, cell as u16, 1);
+                }
+            }
         }
         return b.file();
     }
-    let counts = [0, 4, 10, 17];
+    let counts = [0, 4, 10, 17, 26];
     let mut file = b.file();
     let place = counts[section as usize];
     file[place] = 0xff;

@@ -1,5 +1,8 @@
 //! Files made from well-formed ones that are refused, nearly all of them.
 
+use super::clash::clashing;
+use super::values::{fall, int_cells, reference_cell, some_values, wrong_cell, wrong_home};
+use crate::builder::Builder;
 use crate::random::Random;
 use crate::reader::read;
 use crate::routine::Routine;
@@ -13,7 +16,7 @@ pub fn damaged(random: &mut Random, mut file: Vec<u8>) -> Vec<u8> {
         file.truncate(place);
         return file;
     };
-    match random.below(14) {
+    match random.below(22) {
         0..=1 => cut(random, &mut file, &routine),
         2 => {
             let spare = random.between(1, 9) as usize;
@@ -23,6 +26,9 @@ pub fn damaged(random: &mut Random, mut file: Vec<u8>) -> Vec<u8> {
         4 => many_cells(random, &mut file, &routine),
         5 => wrong_byte(random, &mut file),
         6..=7 => wrong_shape(random, &mut file, &routine),
+        8..=9 => return wrong_values(random, &routine),
+        10 => cut_values(random, &mut file, &routine),
+        11..=12 => return clashing(random, &routine),
         _ => {
             let fields = if random.percent(90) { 1 } else { 2 };
             for _ in 0..fields {
@@ -43,6 +49,45 @@ fn cut(random: &mut Random, file: &mut Vec<u8>, routine: &Routine) {
     file.truncate(place);
 }
 
+/// Leaves the first bytes of a fifth section, or begins one where there is
+/// none.
+fn cut_values(random: &mut Random, file: &mut Vec<u8>, routine: &Routine) {
+    let start = routine.starts()[Section::Values as usize];
+    if !routine.has_values() {
+        file.extend(random.pick(&[1_u16, 2, 256, 257]).to_le_bytes());
+        file.resize(file.len() + Section::Values.row_bytes(), 0);
+    }
+    let left = if random.percent(30) {
+        1
+    } else {
+        random.between(1, (file.len() - start) as u64 - 1) as usize
+    };
+    file.truncate(start + left);
+}
+
+/// A fifth section with a row that it must not have.
+fn wrong_values(random: &mut Random, routine: &Routine) -> Vec<u8> {
+    let mut b = Builder::from(routine);
+    let mut rows = b.start_values.take().unwrap_or_default();
+    if rows.is_empty() {
+        let count = random.between(1, 4) as usize;
+        rows = some_values(random, &int_cells(&b), count);
+    }
+    match random.below(7) {
+        0 => wrong_home(random, &b, &mut rows),
+        1 => wrong_cell(random, &b, &mut rows),
+        2..=4 => {
+            let falls = random.pick(&[1, 1, 2]);
+            for _ in 0..falls {
+                fall(random, &mut rows);
+            }
+        }
+        _ => reference_cell(random, &b, &mut rows),
+    }
+    b.start_values = Some(rows);
+    b.file()
+}
+
 fn wrong_byte(random: &mut Random, file: &mut [u8]) {
     if !file.is_empty() {
         let index = random.index(file.len());
@@ -56,8 +101,11 @@ fn put(file: &mut [u8], place: usize, number: u16) {
     }
 }
 
-fn wrong_count(random: &mut Random, file: &mut [u8], routine: &Routine) {
+fn wrong_count(random: &mut Random, file: &mut Vec<u8>, routine: &Routine) {
     let section = random.pick(&Section::ALL);
+    if section == Section::Values && !routine.has_values() {
+        file.extend([0, 0]);
+    }
     let place = routine.starts()[section as usize];
     let rows = rows(routine, section) as u16;
     let limit = section.limit();
@@ -125,6 +173,7 @@ fn rows(routine: &Routine, section: Section) -> usize {
         Section::Homes => routine.homes().count(),
         Section::Expressions => routine.expressions().count(),
         Section::Commands => routine.commands().count(),
+        Section::Values => routine.start_values().count(),
     }
 }
 
@@ -136,8 +185,11 @@ fn wrong_field(random: &mut Random, file: &mut [u8], routine: &Routine) {
         Section::Homes,
         Section::Expressions,
         Section::Expressions,
+        Section::Expressions,
         Section::Commands,
         Section::Commands,
+        Section::Commands,
+        Section::Values,
     ]);
     let count = rows(routine, section);
     if count == 0 {

@@ -1,8 +1,10 @@
 //! Random probe requests, the same for a seed on every machine.
 
 mod boundary;
+mod clash;
 mod damage;
 mod routines;
+mod values;
 mod weave;
 
 use std::io;
@@ -107,8 +109,13 @@ fn put_length(length: usize) -> [u8; 2] {
     (length as u16).to_le_bytes()
 }
 
+/// Has the request of this index a file at the limits of the format?
+pub fn at_limits(index: u64) -> bool {
+    index % BOUNDARY_EVERY == BOUNDARY_EVERY - 1
+}
+
 fn file(index: u64, random: &mut Random) -> Vec<u8> {
-    if index % BOUNDARY_EVERY == BOUNDARY_EVERY - 1 {
+    if at_limits(index) {
         let which = index / BOUNDARY_EVERY % boundary::BOUNDARIES;
         return boundary::boundary(which, random);
     }
@@ -119,7 +126,7 @@ fn file(index: u64, random: &mut Random) -> Vec<u8> {
         }
         1..=12 => routines::tangled(random).file(),
         13..=20 => routines::slipping(random).file(),
-        21..=44 => {
+        21..=52 => {
             let file = routines::woven(random).file();
             damage::damaged(random, file)
         }
@@ -259,7 +266,7 @@ fn fuel(random: &mut Random, routine: Option<&Routine>, marking: &[u8]) -> u32 {
         };
     }
     match random.below(20) {
-        0 => random.below(5) as u32,
+        0 => random.pick(&[0, 0, 0, 1, 2, 3, 4]),
         1..=2 => units,
         3..=4 => units.saturating_sub(1),
         5..=8 => random.below(u64::from(units) + 1) as u32,

@@ -9,6 +9,10 @@ use crate::rows::{Cmd, Expression, Home, Operator, Type};
 pub fn woven(random: &mut Random) -> Builder {
     let mut weaver = Weaver::new(random);
     let mut statements = weaver.prime();
+    if weaver.random.percent(40) {
+        let statement = weaver.ask(3);
+        statements.push(statement);
+    }
     for _ in 0..weaver.random.between(1, 9) {
         if weaver.random.percent(10) {
             weaver.spare_row();
@@ -38,6 +42,11 @@ pub fn slipping(random: &mut Random) -> Builder {
 /// A routine of rows that name any earlier rows of the right shape.
 pub fn tangled(random: &mut Random) -> Builder {
     let mut weaver = Weaver::new(random);
+    for _ in 0..weaver.random.below(3) {
+        if let Some(cell) = weaver.asked(|_| true) {
+            weaver.read(cell);
+        }
+    }
     let rows = weaver.random.pick(&[0, 1, 3, 10, 30]);
     for _ in 0..rows {
         weaver.spare_row();
@@ -103,7 +112,49 @@ impl Weaver<'_> {
                 let body = self.statement(depth - 1);
                 self.builder.repeat(condition, body)
             }
+            11..=12 => self.ask(depth),
             _ => self.store(),
+        }
+    }
+
+    /// Asks for a start value, and then decides by it, counts it down or puts
+    /// down what comes of it.
+    fn ask(&mut self, depth: usize) -> Cmd {
+        let form = self.random.below(3);
+        let Some(cell) = self.asked(|row| form != 1 || row.value < 8) else {
+            return self.statement(depth - 1);
+        };
+        let value = self.read(cell);
+        match form {
+            0 => {
+                let known = self.number();
+                let known = self.literal(known);
+                let condition = match self.random.below(4) {
+                    0 => self.operation(Operator::Equal, value, known),
+                    1 => self.operation(Operator::Less, known, value),
+                    _ => value,
+                };
+                let then = self.statement(depth - 1);
+                let otherwise = self.statement(depth - 1);
+                self.builder.choose(condition, then, otherwise)
+            }
+            1 => {
+                let work = self.statement(depth - 1);
+                let one = self.literal(1);
+                let less = self.operation(Operator::Subtract, value, one);
+                let step = self.builder.store(cell, less);
+                let body = self.builder.then(work, step);
+                self.builder.repeat(value, body)
+            }
+            _ => {
+                let operator = self.random.pick(&Operator::ALL);
+                let other = self.int(2);
+                let result = self.operation(operator, value, other);
+                let of = self.some_type(|w, t| w.target(t).is_int());
+                // The cell's own type is such a one.
+                let pointer = self.pointer(of.unwrap_or(self.type_of(cell)), 2);
+                self.builder.store(pointer, result)
+            }
         }
     }
 

@@ -1,8 +1,9 @@
-//! The types, homes and expressions of generated routines.
+//! The types, homes, start values and expressions of generated routines.
 
+use super::values::values;
 use crate::builder::Builder;
 use crate::random::Random;
-use crate::rows::{Cmd, Expr, Expression, Home, Operator, Type};
+use crate::rows::{Cmd, Expr, Expression, Home, Operator, StartValue, Type};
 
 /// How one routine leans, in percent, so that routines differ and not only
 /// their rows.
@@ -19,6 +20,8 @@ pub struct Leaning {
     pub nulls: u64,
     /// Rows named more than once.
     pub shared: u64,
+    /// Reads of cells that have a start value.
+    pub asked: u64,
 }
 
 impl Leaning {
@@ -30,12 +33,28 @@ impl Leaning {
             moved: random.pick(&[0, 30, 60, 100]),
             nulls: random.pick(&[0, 2, 10]),
             shared: random.pick(&[0, 10, 30]),
+            asked: random.pick(&[0, 10, 30]),
         }
     }
 }
 
 /// Rows beyond this many are kept small.
 pub const MANY_ROWS: usize = 800;
+
+/// A number that is small, or at some edge, or any.
+pub fn number(random: &mut Random) -> u32 {
+    match random.below(12) {
+        0 => random.draw() as u32,
+        1 => random.pick(&[1 << 31, 31, 32, 33, 65_535, 65_536]),
+        2 => far(random),
+        _ => random.below(6) as u32,
+    }
+}
+
+/// A number that is small and negative, mod 2^32.
+fn far(random: &mut Random) -> u32 {
+    u32::MAX - random.below(8) as u32
+}
 
 /// Writes a well-formed routine by chance.
 pub struct Weaver<'a> {
@@ -111,6 +130,7 @@ impl<'a> Weaver<'a> {
             };
             builder.home(of, size as u16);
         }
+        builder.start_values = values(random, &builder);
         Weaver {
             random,
             builder,
@@ -163,6 +183,25 @@ impl<'a> Weaver<'a> {
         (!all.is_empty()).then(|| self.random.pick(&all))
     }
 
+    /// A pointer to a cell whose start value will do.
+    pub fn asked(&mut self, fits: impl Fn(StartValue) -> bool) -> Option<Expr> {
+        let rows = self.builder.start_values.iter().flatten();
+        let all: Vec<(StartValue, Type)> = rows
+            .map(|&row| (row, self.builder.homes[usize::from(row.home.0) - 1].of))
+            .filter(|&(row, of)| (row.cell == 0 || self.is_moved(of)) && fits(row))
+            .collect();
+        if all.is_empty() {
+            return None;
+        }
+        let (row, of) = self.random.pick(&all);
+        let pointer = self.at(row.home, of);
+        if row.cell == 0 {
+            return Some(pointer);
+        }
+        let offset = self.literal(u32::from(row.cell));
+        Some(self.sum(pointer, offset))
+    }
+
     pub fn some_row(&mut self, fits: impl Fn(Type) -> bool) -> Option<Expr> {
         let all: Vec<Expr> = (0..self.types_of.len())
             .filter(|&row| fits(self.types_of[row]))
@@ -177,17 +216,7 @@ impl<'a> Weaver<'a> {
     }
 
     pub fn number(&mut self) -> u32 {
-        match self.random.below(12) {
-            0 => self.random.draw() as u32,
-            1 => self.random.pick(&[1 << 31, 31, 32, 33, 65_535, 65_536]),
-            2 => self.far(),
-            _ => self.random.below(6) as u32,
-        }
-    }
-
-    /// A number that is small and negative, mod 2^32.
-    pub fn far(&mut self) -> u32 {
-        u32::MAX - self.random.below(8) as u32
+        number(self.random)
     }
 
     pub fn literal(&mut self, n: u32) -> Expr {
@@ -216,8 +245,12 @@ impl<'a> Weaver<'a> {
         self.row(Expression::Home(home), of)
     }
 
+    fn many_rows(&self) -> bool {
+        self.types_of.len() > MANY_ROWS
+    }
+
     pub fn small(&self, depth: usize) -> bool {
-        depth == 0 || self.types_of.len() > MANY_ROWS
+        depth == 0 || self.many_rows()
     }
 
     /// An int.
@@ -225,6 +258,11 @@ impl<'a> Weaver<'a> {
         if self.random.percent(self.leaning.shared) {
             if let Some(row) = self.some_row(Type::is_int) {
                 return row;
+            }
+        }
+        if !self.many_rows() && self.random.percent(self.leaning.asked) {
+            if let Some(cell) = self.asked(|_| true) {
+                return self.read(cell);
             }
         }
         if !self.small(depth) {
@@ -250,7 +288,7 @@ impl<'a> Weaver<'a> {
                     if let Some(of) = self.some_type(|_, _| true) {
                         let mut pointer = self.pointer(of, depth - 1);
                         if self.is_moved(of) && self.random.percent(50) {
-                            let far = self.far();
+                            let far = far(self.random);
                             let offset = self.literal(far);
                             pointer = self.sum(pointer, offset);
                         }
@@ -321,7 +359,7 @@ impl<'a> Weaver<'a> {
     pub fn offset(&mut self, depth: usize) -> Expr {
         match self.random.below(20) {
             0 => {
-                let far = self.far();
+                let far = far(self.random);
                 self.literal(far)
             }
             1..=4 => self.int(depth),

@@ -1,8 +1,8 @@
 //! The lines of the report: their words, and which of them there are.
 
 use crate::kind::Kind;
-use crate::refusal::{Due, KindRule, Lent, Needed, Reason, Refusal};
-use crate::rows::{Command, Expression, Flaw, Operator, Section};
+use crate::refusal::{Due, Fall, KindRule, Lent, Needed, Reason, Refusal};
+use crate::rows::{Command, Expression, Flaw, Operator, Section, LONGEST_FILE};
 use crate::run::Check;
 
 pub fn request(letter: char) -> String {
@@ -106,6 +106,7 @@ fn tag_name(section: Section, tag: u8) -> &'static str {
         },
         Section::Types => "type",
         Section::Homes => "home row",
+        Section::Values => section.row_name(),
     }
 }
 
@@ -142,6 +143,56 @@ fn kind_rule_line(rule: KindRule) -> String {
     format!("refused 8, {rule}")
 }
 
+fn fall_line(fall: Fall) -> String {
+    let fall = match fall {
+        Fall::SameCell => "the same cell",
+        Fall::LowerCell => "a lower cell",
+        Fall::LowerHome => "a lower home",
+    };
+    format!("refused 10, {fall}")
+}
+
+/// The refusals after 4, and of 6 the section.
+fn earned(refusal: &Refusal) -> String {
+    match refusal.reason {
+        Reason::Shape(section, _) => format!("6 of {}", section.name()),
+        _ => refusal.number().to_string(),
+    }
+}
+
+/// One refusal is given, and a later one is earned too.
+pub fn clash(given: &Refusal, other: &Refusal) -> String {
+    clash_line(&earned(given), &earned(other))
+}
+
+fn clash_line(given: &str, other: &str) -> String {
+    format!("refused {given}, where {other} is earned too")
+}
+
+/// A file of the longest length, or one that is longer.
+pub fn long_file(longer: bool) -> String {
+    let length = if longer { "over" } else { "of" };
+    format!("files {length} {LONGEST_FILE} bytes")
+}
+
+/// A well-formed file by its fifth section.
+pub fn section(there: bool) -> String {
+    let section = if there { "a" } else { "no" };
+    format!("well-formed files with {section} section of values")
+}
+
+/// A well-formed file with so many start values, which are none or the most.
+pub fn values(count: usize) -> String {
+    format!("well-formed files with a section of {count} values")
+}
+
+pub fn value_in(home: Option<Kind>) -> String {
+    format!("values in a {} home", name(home))
+}
+
+pub const VALUES_AND_NO_FUEL: &str = "runs of values with fuel 0";
+pub const VALUES_MATTER: &str = "runs that end otherwise without their values";
+
 pub fn reason(refusal: &Refusal, file: &[u8]) -> String {
     let tag = file.get(refusal.place).copied().unwrap_or(0);
     match refusal.reason {
@@ -155,6 +206,7 @@ pub fn reason(refusal: &Refusal, file: &[u8]) -> String {
         },
         Reason::SpareBytes => "refused 4, spare bytes".to_string(),
         Reason::TooManyCells => "refused 5, too many cells".to_string(),
+        Reason::NotRising(fall) => fall_line(fall),
         Reason::Shape(section, needed) => shape_line(tag_name(section, tag), needed),
         Reason::MarkingLength { given, types } if given < types => {
             "refused 7, marking too short".to_string()
@@ -171,10 +223,10 @@ pub fn reason(refusal: &Refusal, file: &[u8]) -> String {
 pub fn all() -> Vec<String> {
     let mut lines = Vec::new();
     let letters: [(char, &[u8]); 4] = [
-        ('R', &[1, 2, 3, 4, 5, 6]),
-        ('I', &[1, 2, 3, 4, 5, 6, 9]),
-        ('C', &[1, 2, 3, 4, 5, 6, 7, 8]),
-        ('X', &[1, 2, 3, 4, 5, 6, 7, 8, 9]),
+        ('R', &[1, 2, 3, 4, 5, 6, 10]),
+        ('I', &[1, 2, 3, 4, 5, 6, 9, 10]),
+        ('C', &[1, 2, 3, 4, 5, 6, 7, 8, 10]),
+        ('X', &[1, 2, 3, 4, 5, 6, 7, 8, 9, 10]),
     ];
     for (letter, _) in letters {
         lines.push(request(letter));
@@ -183,6 +235,7 @@ pub fn all() -> Vec<String> {
         lines.extend(numbers.iter().map(|&number| refused(letter, number)));
     }
     lines.extend(reason_lines());
+    lines.extend(clash_lines());
     lines.extend(["read", "marked", "accepted", "done"].map(outcome));
     lines.extend(
         [
@@ -209,6 +262,28 @@ pub fn all() -> Vec<String> {
     for buffer in [Lent::Marking, Lent::Memory] {
         lines.extend([false, true].map(|surplus| lent(buffer, surplus)));
     }
+    lines.extend(value_lines());
+    lines
+}
+
+fn clash_lines() -> Vec<String> {
+    let shapes = [Section::Expressions, Section::Commands, Section::Values];
+    let [expression, command, value] = shapes.map(|s| format!("6 of {}", s.name()));
+    let mut lines = vec![clash_line("5", "10")];
+    for given in ["5", "10"] {
+        lines.extend([&expression, &command, &value].map(|other| clash_line(given, other)));
+    }
+    lines.extend([&expression, &command].map(|given| clash_line(given, &value)));
+    lines
+}
+
+fn value_lines() -> Vec<String> {
+    let mut lines = Vec::new();
+    lines.extend([false, true].map(long_file));
+    lines.extend([false, true].map(section));
+    lines.extend([0, usize::from(Section::Values.limit())].map(values));
+    lines.extend(Kind::ALL.map(|kind| value_in(Some(kind))));
+    lines.extend([VALUES_AND_NO_FUEL, VALUES_MATTER].map(str::to_string));
     lines
 }
 
@@ -219,7 +294,7 @@ fn reason_lines() -> Vec<String> {
     }
     lines.extend(Section::ALL.map(|s| format!("refused 2, too many {}", s.name())));
     lines.push("refused 2, no commands".to_string());
-    let flaws: [(&str, &[&str], &[&str]); 13] = [
+    let flaws: [(&str, &[&str], &[&str]); 14] = [
         ("type", &["target type"], &[]),
         ("home row", &["type", "size"], &[]),
         ("home", &["home"], &["b"]),
@@ -233,6 +308,7 @@ fn reason_lines() -> Vec<String> {
         ("store", &["expression a", "expression b"], &["c"]),
         ("if", &["expression a", "command b", "command c"], &[]),
         ("while", &["expression a", "command b"], &["c"]),
+        (Section::Values.row_name(), &["home", "cell"], &[]),
     ];
     for (row, outside, unused) in flaws {
         lines.extend(outside.iter().map(|field| flaw_line(row, field, OUTSIDE)));
@@ -243,6 +319,7 @@ fn reason_lines() -> Vec<String> {
     }
     lines.push("refused 4, spare bytes".to_string());
     lines.push("refused 5, too many cells".to_string());
+    lines.extend([Fall::SameCell, Fall::LowerCell, Fall::LowerHome].map(fall_line));
     let shapes = [
         ("pointer sum", Needed::Reference),
         ("pointer sum", Needed::Int),
@@ -251,6 +328,7 @@ fn reason_lines() -> Vec<String> {
         ("store", Needed::Reference),
         ("if", Needed::Int),
         ("while", Needed::Int),
+        (Section::Values.row_name(), Needed::Int),
     ];
     lines.extend(shapes.map(|(row, needed)| shape_line(row, needed)));
     lines

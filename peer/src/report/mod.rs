@@ -8,13 +8,16 @@ use std::fmt;
 use crate::infer::infer;
 use crate::kind::{check, Marking};
 use crate::probe::{Call, Request};
-use crate::reader::read;
+use crate::reader::{earned, read};
 use crate::refusal::{Lent, Reason, Refusal};
 use crate::routine::Routine;
-use crate::rows::{Command, Expression, Section, Type};
+use crate::rows::{Command, Expression, Section, Type, LONGEST_FILE};
 use crate::run::{run, Answer, Outcome};
 
 use lines::Row;
+
+/// The most fuel of a run that is made to be held against another.
+const TRIAL: u32 = 20_000;
 
 /// Counted lines, all of which can be reached.
 pub struct Report {
@@ -67,11 +70,36 @@ impl Report {
     pub fn count(&mut self, request: &Request) {
         let letter = request.call.letter();
         self.add(lines::request(letter), 1);
-        let answer =
-            read(&request.file).and_then(|routine| self.count_call(&routine, &request.call));
+        if request.file.len() >= LONGEST_FILE {
+            let longer = request.file.len() > LONGEST_FILE;
+            self.add(lines::long_file(longer), 1);
+        }
+        let answer = read(&request.file).and_then(|routine| {
+            self.count_section(&routine);
+            self.count_call(&routine, &request.call)
+        });
         if let Err(refusal) = answer {
             self.add(lines::refused(letter, refusal.number()), 1);
             self.add(lines::reason(&refusal, &request.file), 1);
+            self.count_clashes(&request.file);
+        }
+    }
+
+    /// The refusals that a file earns and is not given.
+    fn count_clashes(&mut self, file: &[u8]) {
+        if let Some((given, others)) = earned(file).split_first() {
+            for other in others {
+                self.add(lines::clash(given, other), 1);
+            }
+        }
+    }
+
+    /// The fifth section of a well-formed file.
+    fn count_section(&mut self, routine: &Routine) {
+        self.add(lines::section(routine.has_values()), 1);
+        let count = routine.start_values().count();
+        if routine.has_values() && (count == 0 || count == usize::from(Section::Values.limit())) {
+            self.add(lines::values(count), 1);
         }
     }
 
@@ -105,6 +133,7 @@ impl Report {
                 self.add(lines::lent(Lent::Memory, surplus), 1);
                 self.count_kinds("run", &marking);
                 self.count_rows(routine, &marking);
+                self.count_values(routine, &marking, *fuel);
                 self.count_outcome(routine, &marking, answer);
             }
         }
@@ -142,6 +171,31 @@ impl Report {
                 let line = lines::conversion("store", kind(routine.type_of(value)), target);
                 self.add(line, 1);
             }
+        }
+    }
+
+    /// The start values of a run, and whether it would end otherwise without
+    /// them.
+    fn count_values(&mut self, routine: &Routine, marking: &Marking, fuel: u32) {
+        for (_, row) in routine.start_values() {
+            let home = marking.kind(routine.home(row.home).of);
+            self.add(lines::value_in(home), 1);
+        }
+        if routine.start_values().next().is_none() {
+            return;
+        }
+        if fuel == 0 {
+            self.add(lines::VALUES_AND_NO_FUEL.to_string(), 1);
+        }
+        let without = Routine {
+            start_values: None,
+            ..routine.clone()
+        };
+        // Without them a run may never end.
+        let fuel = fuel.min(TRIAL);
+        let answer = |routine: &Routine| run(routine, marking, fuel, &mut vec![0; routine.cells()]);
+        if answer(routine) != answer(&without) {
+            self.add(lines::VALUES_MATTER.to_string(), 1);
         }
     }
 

@@ -209,7 +209,7 @@ pub fn cases() -> Vec<Case> {
     let full = |entries| (FUEL, entries);
 
     vec![
-        Case::new("1 read", &one, Call::Read, "read 0 4 10 22"),
+        Case::new("1 read", &one, Call::Read, "read 0 4 10 22 31"),
         infer("1 least", &one, 1, "marked : 0 99"),
         run("1 run", &one, &[Safe], full(4), "done 0 3 : 7 0 0 99"),
         run("1 fuel 2", &one, &[Safe], (2, 3), "fuel 17 2 : 0 0 0"),

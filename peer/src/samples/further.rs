@@ -4,7 +4,7 @@ use super::cases::Case;
 use crate::probe::{Call, Request};
 use crate::text;
 
-fn case(name: &'static str, text: &str, call: Call, answer: &'static str) -> Case {
+pub(super) fn case(name: &'static str, text: &str, call: Call, answer: &'static str) -> Case {
     // A text with a mistake is taken as an empty file, which is refused.
     let file = text::parse(text).unwrap_or_default();
     Case {
@@ -14,12 +14,12 @@ fn case(name: &'static str, text: &str, call: Call, answer: &'static str) -> Cas
     }
 }
 
-fn read(name: &'static str, text: &str, answer: &'static str) -> Case {
+pub(super) fn read(name: &'static str, text: &str, answer: &'static str) -> Case {
     case(name, text, Call::Read, answer)
 }
 
 /// Runs a text under kinds given as digits, with fuel and lent entries.
-fn run(
+pub(super) fn run(
     name: &'static str,
     text: &str,
     (kinds, fuel, entries): (&str, u32, usize),
@@ -203,11 +203,6 @@ pub fn further() -> Vec<Case> {
             "no commands, spare byte",
             "types\nhomes\nexpressions\ncommands\nbytes 00",
             "refused 2 6",
-        ),
-        read(
-            "spare byte",
-            "types\nhomes\nexpressions\ncommands\n c0 = skip\nbytes 00",
-            "refused 4 15",
         ),
         read(
             "home 0",

@@ -7,11 +7,12 @@ use crate::rows::{Cmd, Expr, Home, Operator, Type};
 const MOST_TYPES: usize = 255;
 const MOST_ROWS: usize = 1024;
 
-/// The longest file: 255 types, 64 homes, 1,024 expressions and commands.
+/// The longest file: 255 types, 64 homes, 1,024 expressions and commands, and
+/// 256 start values, which are all cells of the four homes of int.
 pub fn longest() -> Builder {
     let mut b = Builder::new();
     for number in 0..MOST_TYPES {
-        b.reference(Type(number as u16 / 2));
+        b.reference(Type(number as u16 / 4));
     }
     for number in 1..=64 {
         b.home(Type(number), 64);
@@ -31,6 +32,11 @@ pub fn longest() -> Builder {
     while b.commands.len() < MOST_ROWS {
         let last = Cmd(b.commands.len() as u16 - 1);
         b.then(Cmd(0), last);
+    }
+    for home in 1..=4 {
+        for cell in 0..64 {
+            b.start_value(Home(home), cell, u32::from(home * cell));
+        }
     }
     b
 }

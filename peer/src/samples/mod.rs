@@ -1,14 +1,19 @@
-//! Named routine files for benchmarks, and the twelve cases.
+//! Named routine files for benchmarks, and the cases: the twelve, and further
+//! ones.
 
 mod cases;
 mod further;
 mod inference;
 mod programs;
+mod values;
 
 pub use cases::{cases, Case, PRINTED_CASE};
 pub use further::further;
 pub use inference::{deep_pairs, falling_dynamic, ladder, longest, rising_seq};
-pub use programs::{copy, counting_loop, deep_commands, deep_expression, pointers, sort, tray};
+pub use programs::{
+    copy, counting_loop, deep_commands, deep_expression, pointers, sort, start_values, tray,
+};
+pub use values::start_value_cases;
 
 use crate::infer::infer;
 use crate::kind::{Kind, Marking};
@@ -60,6 +65,8 @@ pub fn all() -> Vec<Sample> {
         Sample::least("deep-commands", deep_commands().file()),
         Sample::least("sort", sort(48).file()),
         Sample::least("pointers", pointers(16).file()),
+        Sample::least("start-values", start_values().file()),
+        Sample::dynamic("start-values-dynamic", start_values().file()),
         Sample::least("longest", longest().file()),
         Sample::least("rising-seq", rising_seq().file()),
         Sample::least("falling-dynamic", falling_dynamic().file()),

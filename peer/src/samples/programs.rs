@@ -1,7 +1,7 @@
 //! Routines that do something: loops, copies, a sort.
 
 use crate::builder::Builder;
-use crate::rows::{Cmd, Expr, Operator, Type};
+use crate::rows::{Cmd, Expr, Home, Operator, Type};
 
 /// `cell = cell + step`, through a pointer to int.
 fn add(b: &mut Builder, cell: Expr, step: Expr) -> Cmd {
@@ -156,6 +156,28 @@ pub fn pointers(cells: u16) -> Builder {
     let tally = add(&mut b, total, value);
     let add_up = count_up(&mut b, index, limit, tally);
     b.sequence(&[set_item, fill, rewind, add_up]);
+    b
+}
+
+/// 256 start values over 64 homes and 4,096 cells. The body asks for the last
+/// of them and no more, so that nearly all of a run is its start.
+pub fn start_values() -> Builder {
+    let mut b = Builder::new();
+    let of = b.reference(Type::INT);
+    for _ in 0..64 {
+        let home = b.home(of, 64);
+        for cell in [15, 31, 47, 63] {
+            b.start_value(home, cell, 1);
+        }
+    }
+    let first = b.at(Home(1));
+    let last = b.at(Home(64));
+    let offset = b.literal(63);
+    let last = b.sum(last, offset);
+    let disc = b.read(last);
+    let note = b.store(first, disc);
+    let skip = b.skip();
+    b.choose(disc, note, skip);
     b
 }
 

@@ -10,6 +10,8 @@
 //!   e1 = literal 7
 //! commands
 //!   c0 = store through e0 value e1
+//! values
+//!   v0 = home h1 cell 2 value 7
 //! ```
 //!
 //! A section is in the file exactly if its header is in the text. Its count

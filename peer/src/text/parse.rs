@@ -2,7 +2,10 @@
 
 use std::fmt;
 
-use crate::rows::{Cmd, Command, Expr, Expression, Home, HomeRow, Operator, Section, Type};
+use super::names::row_name;
+use crate::rows::{
+    Cmd, Command, Expr, Expression, Home, HomeRow, Operator, Section, StartValue, Type,
+};
 
 /// What is wrong with a text, and in which line, from 1.
 #[derive(Clone, Debug, PartialEq, Eq)]
@@ -110,11 +113,7 @@ impl Parser {
         let Some(open) = &mut self.open else {
             return Err(format!("`{name}` stands in no section"));
         };
-        let number = match open.section {
-            Section::Types | Section::Homes => open.rows + 1,
-            Section::Expressions | Section::Commands => open.rows,
-        };
-        let expected = format!("{}{number}", &open.section.name()[..1]);
+        let expected = row_name(open.section, open.rows);
         if name != expected {
             return Err(format!("the next row is `{expected}`, not `{name}`"));
         }
@@ -139,6 +138,10 @@ impl Parser {
             }
             (Section::Commands, row) => {
                 self.file.extend(command(row)?.encode());
+                Ok(())
+            }
+            (Section::Values, row) => {
+                self.file.extend(start_value(row)?.encode());
                 Ok(())
             }
         }
@@ -179,7 +182,7 @@ fn home_row(row: &[&str]) -> Result<HomeRow, String> {
 fn expression(row: &[&str]) -> Result<Expression, String> {
     Ok(match row {
         ["literal", n] => Expression::Literal(number(n)?),
-        ["home", home] => Expression::Home(Home(numbered("h", "home", home)?)),
+        ["home", home] => Expression::Home(home_name(home)?),
         ["cast", value, "to", to] => Expression::Cast {
             value: expr(value)?,
             to: type_name(to)?,
@@ -236,6 +239,17 @@ fn command(row: &[&str]) -> Result<Command, String> {
     })
 }
 
+fn start_value(row: &[&str]) -> Result<StartValue, String> {
+    match row {
+        ["home", home, "cell", cell, "value", value] => Ok(StartValue {
+            home: home_name(home)?,
+            cell: number(cell)?,
+            value: number(value)?,
+        }),
+        _ => Err("a start value is `home h1 cell 2 value 7`".into()),
+    }
+}
+
 /// A decimal number, or one in hexadecimal after `0x`.
 fn number<T: TryFrom<u32>>(word: &str) -> Result<T, String> {
     let number = match word.strip_prefix("0x") {
@@ -258,6 +272,10 @@ fn type_name(word: &str) -> Result<Type, String> {
         return Ok(Type::INT);
     }
     numbered("t", "type", word).map(Type)
+}
+
+fn home_name(word: &str) -> Result<Home, String> {
+    numbered("h", "home", word).map(Home)
 }
 
 fn expr(word: &str) -> Result<Expr, String> {

@@ -2,8 +2,9 @@
 
 use std::fmt::{self, Write};
 
+use super::names::row_name;
 use crate::reader::read;
-use crate::rows::{Command, Expression, HomeRow, Section, Type};
+use crate::rows::{Command, Expression, HomeRow, Section, StartValue, Type};
 
 /// A decoded row, shown in its text form without its name.
 pub enum RowText {
@@ -11,6 +12,7 @@ pub enum RowText {
     Home(HomeRow),
     Expression(Expression),
     Command(Command),
+    StartValue(StartValue),
 }
 
 impl fmt::Display for RowText {
@@ -42,6 +44,9 @@ impl fmt::Display for RowText {
                 } => write!(f, "if {condition} then {then} else {otherwise}"),
                 Command::While { condition, body } => write!(f, "while {condition} do {body}"),
             },
+            RowText::StartValue(StartValue { home, cell, value }) => {
+                write!(f, "home {home} cell {cell} value {value}")
+            }
         }
     }
 }
@@ -141,12 +146,7 @@ impl Page {
 }
 
 fn row_line(section: Section, index: usize, row: &[u8]) -> String {
-    let letter = &section.name()[..1];
-    let number = match section {
-        Section::Types | Section::Homes => index + 1,
-        Section::Expressions | Section::Commands => index,
-    };
-    let mut line = format!("{ROW_INDENT}{letter}{number} = ");
+    let mut line = format!("{ROW_INDENT}{} = ", row_name(section, index));
     let _ = match decode(section, row) {
         Some(text) => write!(line, "{text}"),
         None => write!(line, "{}", raw(row)),
@@ -166,6 +166,10 @@ fn decode(section: Section, row: &[u8]) -> Option<RowText> {
         Section::Commands => {
             let row = Command::decode(row.try_into().ok()?).ok()?;
             Some(RowText::Command(row))
+        }
+        Section::Values => {
+            let row = StartValue::decode(row.try_into().ok()?);
+            Some(RowText::StartValue(row))
         }
     }
 }

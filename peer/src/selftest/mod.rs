@@ -1,5 +1,7 @@
-//! The program's own tests: the twelve cases, and properties that hold for
-//! every generated file.
+//! The program's own tests: the twelve cases and further ones, and properties
+//! that hold for every generated file.
+
+mod values;
 
 use crate::brute;
 use crate::builder::Builder;
@@ -66,6 +68,7 @@ pub fn test(count: u64) -> Tally {
     test_cases(&mut tally);
     test_samples(&mut tally);
     let mut stuck = 0;
+    let mut with_values = 0;
     for index in 0..count {
         let file = well_formed(SEED, index);
         let random = &mut Random::for_item(SEED + 1, index);
@@ -75,6 +78,8 @@ pub fn test(count: u64) -> Tally {
                 test_least_shown(&mut tally, index, &file, &routine);
                 test_runs(&mut tally, index, random, &file, &routine);
                 stuck += u64::from(test_any_marking(&mut tally, index, random, &routine));
+                let valued = values::test_file(&mut tally, index, random, &file, &routine);
+                with_values += u64::from(valued);
             }
             Err(refusal) => tally.expect(false, || format!("file {index}: {refusal}")),
         }
@@ -83,12 +88,19 @@ pub fn test(count: u64) -> Tally {
     tally.expect(stuck > count / 100, || {
         format!("only {stuck} runs of refused markings are stuck")
     });
+    tally.expect(with_values > count / 4, || {
+        format!("only {with_values} files have start values")
+    });
     test_requests(&mut tally, count);
     tally
 }
 
 fn test_cases(tally: &mut Tally) {
-    for case in samples::cases().into_iter().chain(samples::further()) {
+    let cases = samples::cases().into_iter();
+    for case in cases
+        .chain(samples::further())
+        .chain(samples::start_value_cases())
+    {
         tally.expect_equal(case.request.answer().as_str(), case.answer, || {
             format!("case {}", case.name)
         });
@@ -321,6 +333,7 @@ fn test_requests(tally: &mut Tally, count: u64) {
         test_protocol(tally, index, &request);
         test_refused(tally, index, &request);
         test_words(tally, index, &request);
+        values::test_request(tally, index, &request);
         test_text(tally, &format!("request {index}"), &request.file);
         if let Ok(routine) = read(&request.file) {
             let again = Builder::from(&routine).file();
@@ -371,7 +384,7 @@ fn test_protocol(tally: &mut Tally, index: u64, request: &Request) {
 fn test_refused(tally: &mut Tally, index: u64, request: &Request) {
     let same_numbers = |answer: Result<(), Refusal>| match (answer, read(&request.file)) {
         (Err(refusal), Err(of_file)) => refusal == of_file,
-        (Err(refusal), Ok(_)) => refusal.number() >= 7,
+        (Err(refusal), Ok(_)) => (7..=9).contains(&refusal.number()),
         (Ok(()), file) => file.is_ok(),
     };
     match &request.call {
