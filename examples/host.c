@@ -1,4 +1,4 @@
-/* A host in C: it runs a routine, meets a failed check, and shows a refusal. */
+/* A host in C: it runs a routine, meets a failed check, gives a start value, and shows a refusal. */
 #include <inttypes.h>
 #include <stdio.h>
 
@@ -39,8 +39,15 @@ int main(void) {
     for (size_t i = 0; i < sizeof in_range; i++) past_the_end[i] = in_range[i];
     past_the_end[18] = 3; /* home 1 + 3: one cell too far */
 
+    /* The same routine, told at its start that a disc is in: cell 0 of home 1 starts as 1. */
+    static const uint8_t start_values[] = {1, 0, 1, 0, 0, 0, 1, 0, 0, 0};
+    uint8_t disc_in[sizeof in_range + sizeof start_values];
+    for (size_t i = 0; i < sizeof in_range; i++) disc_in[i] = in_range[i];
+    for (size_t i = 0; i < sizeof start_values; i++) disc_in[sizeof in_range + i] = start_values[i];
+
     run("in range", in_range, sizeof in_range);
     run("past the end", past_the_end, sizeof past_the_end);
+    run("disc in", disc_in, sizeof disc_in);
     run("cut short", in_range, sizeof in_range - 1);
     return 0;
 }

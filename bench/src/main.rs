@@ -201,7 +201,7 @@ fn main() {
         .filter(|s| s.name.starts_with("tray-"))
         .cloned()
         .collect();
-    let files = ["longest", "counting-loop", "sort", "tray-1"].map(named);
+    let files = ["longest", "start-values", "counting-loop", "sort", "tray-1"].map(named);
     let worst = [
         "longest",
         "rising-seq",
@@ -245,6 +245,8 @@ fn main() {
         "deep-commands",
         "sort",
         "pointers",
+        "start-values",
+        "start-values-dynamic",
     ] {
         run(name, &[named(name)]);
     }

@@ -93,9 +93,9 @@ module _ {r : Routine} (rising : Rising r) where
         elim (ℕ-discrete i n) [
           | yes e ↦ rw e (just-given n l)
           | no d ↦
-            cell-other (given-ok r m formed lent n (omega arith)) (startAddress r (r .value n)) (startAddress r (r .value i)) (valueOf n) (positive n l) (positive i (omega arith))
-            (λ e. apart-rows i n (omega arith) l e)
-            ∙ given-cell n i (omega arith) (omega arith)
+              cell-other (given-ok r m formed lent n (omega arith)) (startAddress r (r .value n)) (startAddress r (r .value i)) (valueOf n) (positive n l) (positive i (omega arith))
+              (λ e. apart-rows i n (omega arith) l e)
+              ∙ given-cell n i (omega arith) (omega arith)
         ]
 
     other-cell : (n a : ℕ) → n ≤ r .values → 1 ≤ a → ((i : ℕ) → i < n → a ≡ startAddress r (r .value i) → ⊥) → cell (after n) a ≡ cell (after 0) a

@@ -223,11 +223,10 @@ sections-is s = refl
 -- ---- the four sections, then what follows
 
 pub four-places : {s : List ℕ} {at : Starts} → Four s at → (at .homes ≤ 512) × (at .values ≤ 13062)
-four-places y =
-    (
-      omega (arith, y .types-at, y .homes-at, y .types .few),
-      omega (arith, y .types-at, y .homes-at, y .exprs-at, y .commands-at, y .values-at, y .types .few, y .homes .few, y .exprs .few, y .commands .few),
-    )
+four-places y = (
+  omega (arith, y .types-at, y .homes-at, y .types .few),
+  omega (arith, y .types-at, y .homes-at, y .exprs-at, y .commands-at, y .values-at, y .types .few, y .homes .few, y .exprs .few, y .commands .few),
+)
 
 pub homes-sighted : {s : List ℕ} {at : Starts} → Four s at → Sighted s (Values (at .homes))
 homes-sighted y = of-values (y .homes .fits)

@@ -54,12 +54,13 @@ impl fmt::Display for Refusal {
             1 => "the file is cut short",
             2 => "a count is over its limit, or there are no commands",
             3 => "a row has a tag, field or number that is not allowed",
-            4 => "bytes follow the commands",
+            4 => "bytes follow the start values",
             5 => "the homes have too many cells",
             6 => "an int stands where a reference is needed, or the reverse",
             7 => "the marking has a wrong length or byte",
             8 => "the marking breaks a kind rule",
-            _ => "what was lent is too short",
+            9 => "what was lent is too short",
+            _ => "a start value is not behind the one before it, by home, then cell",
         };
         write!(out, "refused {} at {}: {}", self.number, self.place, words)
     }
