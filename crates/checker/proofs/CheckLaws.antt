@@ -41,7 +41,7 @@ module _ {s before after : List ℕ} {r : ReadAnswer} (read : ReadTyped s before
       go (fine at) e = read .filled at e .long ∙ size
       go (refused n p) e = ap length (read .left n p e) ∙ size
 
-  -- A refusal of 1 to 6 is one of checking.
+  -- A refusal of reading is one of checking.
   refused-same : {n : Refusal} → r ≡ Refused n → (m : List ℕ) → readSays r ≡ judged s m
   unfolding judged
   refused-same {n} e m =

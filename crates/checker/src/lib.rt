@@ -358,7 +358,7 @@ fn judge(file: &[u8], at: Starts, types: &[u16; 1024], marking: &[u8]) -> ReadAn
     judge_rows(file, at, types, &targets, &kinds, counts)
 }
 
-// Refusals 1 to 8; and in `types` the types of the expression rows of a file that earns none of 1 to 5.
+// Refusals 1 to 8 and 10; and in `types` the types of the expression rows of a file that earns none of 1 to 5.
 pub fn check_typed(file: &[u8], marking: &[u8], types: &mut [u16; 1024]) -> ReadAnswer
     requires { ⌜ length (now types) ≡ 1024 ⌝ }
     ensures { λ r. ⌜ CheckedTyped (now (file .entry)) (now (marking .entry)) (now (types .exit)) r ⌝ }

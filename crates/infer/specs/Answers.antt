@@ -19,7 +19,7 @@ use Rattle.view.specs.Rows.{countsOf}
 use Rattle.reader.specs.Tables.{ReadTyped}
 use Rattle.gather.specs.Told.{told-fine, told-refused}
 
--- Refusals 1 to 6.
+-- Refusals of reading.
 pub file-refused : {s before after lent : List ℕ} {r : ReadAnswer} {n : Refusal} → ReadTyped s before after r → r ≡ reads.Refused n
     → Inferred s lent (record { answer = refusal n; lent = lent })
 unfolding inferable

@@ -1,4 +1,4 @@
--- What refusals 1 to 8 see to, row by row, and the type of a row.
+-- What refusals 1 to 6 see to, row by row, and the type of a row.
 use mathlib.Core.Bool.{true}
 use Rattle.rules.specs.Basic.{width}
 use Rattle.rules.specs.Table.{Home, total, Expr, Command, StartRow, Routine, literal, home, cast, null, sum, read, op, skip, seq, store, ifElse, while}

@@ -13,7 +13,7 @@ use borrow.Author.Tests.{le-leb, ne-eqb}
 use Rattle.rules.specs.declared.Starts.{Starts}
 use Rattle.rules.specs.declared.Section.{Section}
 use Rattle.rules.specs.declared.Section.the-variants.{Types, Homes, Exprs, Commands, Values}
-use Rattle.rules.specs.Basic.{byte, half, choose, inRange, Verdict, fine, refused, guard, unlessRefused}
+use Rattle.rules.specs.Basic.{byte, half, inRange, Verdict, fine, refused, guard, unlessRefused}
 use Rattle.rules.specs.Reading.{rowBytes, fewest, most, rowGood, rows, section, cells, sections, fifth, reading}
 use Rattle.rules.specs.Calls.{formed, judged, checking, Left, inferable, Inferred, left, marked, runnable, running}
 use Rattle.rules.specs.Tested.{refused-fine}

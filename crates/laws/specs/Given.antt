@@ -1,5 +1,5 @@
 -- The starting memory cell by cell. Start rows rise, so no two name one cell, and each value stays where its row puts it.
-use mathlib.Core.Path.{_≡_, refl, sym, _∙_}
+use mathlib.Core.Path.{_≡_, refl, _∙_}
 use mathlib.Core.Bool.{Bool, true, false, _&&_, _||_}
 use Prim.Native.Nat.{ℕ, zero, suc, _+_, _≤_, _<_}
 use native.Mathlib.Nat.{not-suc-le-zero, le-refl}
@@ -9,13 +9,12 @@ use mathlib.Core.List.{List}
 use lib.Dec.{ltb, eqb}
 use borrow.Author.Tests.{ltb-true, eqb-true}
 use Rattle.rules.specs.declared.Value.{Value}
-use Rattle.rules.specs.Table.{StartRow, Routine, routine}
-use Rattle.rules.specs.Reading.{below, rises}
+use Rattle.rules.specs.Table.{StartRow, Routine}
+use Rattle.rules.specs.Reading.{below}
 use Rattle.rules.specs.Shape.{homeAt}
 use Rattle.rules.specs.Kinds.{kind}
 use Rattle.rules.specs.Memory.{State, cell}
-use Rattle.rules.specs.Run.{startValue, givenValue, cleared, given, start}
-use Rattle.rules.specs.Valid.{In, Real, ValidState}
+use Rattle.rules.specs.Run.{givenValue, cleared, given, start}
 use Rattle.rules.specs.Tests.{parts-true}
 use Rattle.laws.specs.Promises.{startAddress, Starting, StartingMemory}
 use Rattle.laws.specs.Store.{cell-same, cell-other}

@@ -14,7 +14,7 @@ use Rattle.rules.specs.declared.InferAnswer.{InferAnswer}
 use Rattle.rules.specs.declared.RunAnswer.{RunAnswer}
 use Rattle.rules.specs.Basic.{byte, half, width, fine, refused, unlessRefused}
 use Rattle.rules.specs.Table.{StartRow, Routine, routine, null}
-use Rattle.rules.specs.Reading.{cells, sections, reading}
+use Rattle.rules.specs.Reading.{cells, sections, reading, rises}
 use Rattle.rules.specs.Kinds.{Kind, SAFE, kind, notSafe, sameBelow, same, typeKind, exprKind, commandKind, Acceptable}
 use Rattle.rules.specs.Shape.{homeAt, typeOf, exprShaped, commandShaped, valueShaped, shape}
 use Rattle.rules.specs.Least.{Least}
@@ -85,7 +85,7 @@ pub record Safe (r : Routine) (m : List ℕ) (w : State) (x : Told Ran) : Type 0
   -- And its memory is as after the last store.
   pub last : stateOf (x .answer) ≡ replay w (x .steps)
 
--- For every file of bytes that earns none of refusals 1 to 6, every marking that earns neither 7 nor 8, every lent memory and every fuel.
+-- For every well-formed file of bytes, every marking that earns neither 7 nor 8, every lent memory and every fuel.
 abbrev pub Safety : Type 0
 Safety = (s m lent : List ℕ) (fuel : ℕ) (at : Starts) → Bytes s → judged s m ≡ fine at
     → Safe (routine s at) m (start (routine s at) m lent) (run (routine s at) m lent fuel)
@@ -236,7 +236,7 @@ MadeOfNumber = (r : Routine) (m : List ℕ) (w : State) → ValidState r m w →
 
 -- ---- rows
 
--- What refusals 1 to 8 leave of each row.
+-- What refusals 1 to 8 and 10 leave of each row.
 pub record Facts (r : Routine) (m : List ℕ) : Type 0 where
   -- A type's target has a lower number, and DYNAMIC goes down to it.
   pub types : (i : ℕ) → i < r .types → (r .target (suc i) < suc i) × (typeKind r m (suc i) ≡ true)
@@ -245,8 +245,8 @@ pub record Facts (r : Routine) (m : List ℕ) : Type 0 where
   -- An operand comes earlier and is in range, is int or a reference as its row needs, and the row keeps the kind rule.
   pub exprs : (e : ℕ) → e < r .exprs → Fits r e (r .expr e) × (exprShaped r (r .expr e) ≡ true) × (exprKind r m (r .expr e) ≡ true)
   pub commands : (c : ℕ) → c < r .commands → CommandFits r c (r .command c) × (commandShaped r (r .command c) ≡ true) × (commandKind r m (r .command c) ≡ true)
-  -- A start row names an int cell of a home.
-  pub values : (i : ℕ) → i < r .values → ValueFits r (r .value i) × (valueShaped r (r .value i) ≡ true)
+  -- A start row names a cell of a home, of int type, behind that of the row before it.
+  pub values : (i : ℕ) → i < r .values → ValueFits r (r .value i) × (valueShaped r (r .value i) ≡ true) × (rises r i ≡ true)
   -- A null has a reference type.
   pub nulls : (e t : ℕ) → e < r .exprs → r .expr e ≡ null t → 0 < t
   -- The type of a row is one that there is.

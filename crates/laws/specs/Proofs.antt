@@ -15,7 +15,7 @@ use Rattle.rules.specs.Ruled.{Check, check1, check2, check3, gives, fails}
 use Rattle.rules.specs.Values.{convert, reach}
 use Rattle.rules.specs.Run.{noFuel, failed, noRule, Ran, done, halted, startCells, cleared, start, run}
 use Rattle.rules.specs.Valid.{InHome, Laid, ValidState}
-use mathlib.Core.Path.{_≡_, refl, sym, ap, _∙_}
+use mathlib.Core.Path.{_≡_, refl, sym, _∙_}
 use mathlib.Core.Logic.{_⊎_, inl, inr}
 use Prim.Native.Nat.{ℕ, suc, _+_, _-_}
 use native.Mathlib.Nat.{le-refl}
@@ -35,7 +35,7 @@ use Rattle.laws.specs.Sound.{exec-ok}
 use Rattle.laws.specs.Units.{exec-spends}
 use Rattle.laws.specs.Prefix.{exec-longer}
 use Rattle.laws.specs.Start.{length-start, start-laid, start-ok, given-past}
-use Rattle.laws.specs.Known.{unrefused, formed-known}
+use Rattle.laws.specs.Known.{unrefused, formed-known, formed-rising}
 use Rattle.laws.specs.Read.{null-ref, formed-fine, judged-fine, acceptable-judged}
 use Rattle.laws.specs.Same.{reflexive, symmetric, trans, same-kind, same-bound}
 use Rattle.laws.specs.Dynamic.{all-acceptable}
@@ -235,7 +235,7 @@ rows s m at b j =
       homes = λ g y. f .homed y;
       exprs = λ e l. (f .exprs e l .0, f .exprs e l .1, a .exprs e l);
       commands = λ c l. (f .commands c l .0, f .commands c l .1, a .commands c l);
-      values = λ i l. f .values i l;
+      values = λ i l. (f .values i l .0, f .values i l .1, formed-rising s at (judged-fine s m j .0) i l);
       nulls = λ e t l q. null-ref (formed-known s at (judged-fine s m j .0)) e t l q;
       typed = λ e l. type-le f e l;
       body = f .some;

@@ -1,4 +1,4 @@
--- What refusals 1 to 6 leave: a file that earns none stands for a well-formed routine.
+-- What refusals 1 to 6 and 10 leave: a file that earns none stands for a well-formed routine.
 use mathlib.Core.Path.{_≡_, refl, sym, ap, _∙_}
 use mathlib.Core.Bool.{true}
 use Prim.Native.Nat.{ℕ, zero, suc, _+_, _*_, _-_, _≤_, _<_}

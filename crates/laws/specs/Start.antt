@@ -2,7 +2,7 @@
 use mathlib.Core.Bool.{true, false}
 use Rattle.rules.specs.Basic.{width}
 use Rattle.rules.specs.Table.{Home, StartRow, Routine, total}
-use Rattle.rules.specs.Shape.{homeAt, valueShaped}
+use Rattle.rules.specs.Shape.{homeAt}
 use Rattle.rules.specs.Kinds.{Kind, int, SAFE, SEQ, DYNAMIC, kind, isDynamic}
 use Rattle.rules.specs.Memory.{State, cell, encode}
 use Rattle.rules.specs.Values.{nullValue}

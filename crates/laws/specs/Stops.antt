@@ -1,6 +1,5 @@
 -- A file that stops after its commands has no start rows, since past its end all bytes are 0.
-use mathlib.Core.Path.{_≡_, refl, sym, ap, _∙_}
-use mathlib.Core.Bool.{true}
+use mathlib.Core.Path.{_≡_, refl}
 use Prim.Native.Nat.{ℕ, _+_}
 use mathlib.Core.List.{List}
 use lib.ListN.{length}
@@ -11,9 +10,8 @@ use Rattle.rules.specs.Basic.{half, Verdict, fine, refused, guard, unlessRefuse
 use Rattle.rules.specs.Table.{routine}
 use Rattle.rules.specs.Reading.{cells, sections, fifth, reading, rising}
 use Rattle.rules.specs.Shape.{shape}
-use Rattle.rules.specs.Run.{cleared, start, exec, run}
 use Rattle.rules.specs.Calls.{formed}
-use Rattle.laws.specs.Promises.{Stops, Keeps, StopsAfterCommands}
+use Rattle.laws.specs.Promises.{Stops, StopsAfterCommands}
 use Rattle.laws.specs.Known.{none-past, reading-sections}
 
 module _ (s : List ℕ) (stops : Stops s) where

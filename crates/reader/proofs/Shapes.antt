@@ -2,7 +2,7 @@
 use mathlib.Core.Path.{_≡_, refl, sym, ap, _∙_}
 use mathlib.Core.Logic.{inl, inr}
 use mathlib.Core.Bool.{Bool, true, false, _&&_, _||_}
-use Prim.Native.Nat.{ℕ, zero, suc, _+_, _*_, _-_, _≤_, _<_}
+use Prim.Native.Nat.{ℕ, zero, suc, _+_, _-_, _≤_, _<_}
 use native.Mathlib.Decide.{decLe}
 use native.Mathlib.Nat.{not-suc-le-zero}
 use native.Mathlib.Numerals.{add-one, sub-one}
@@ -238,9 +238,6 @@ module _ {s : List ℕ} {at : Starts} (known : WellRead s at) {i : ℕ} (less : 
       rw (c, b, a)
 
 -- One row after the other.
-pub first-rises : (r : Routine) (i : ℕ) → i ≡ 0 → true ≡ rises r i
-first-rises r i e = rw e
-
 pub next-rises : (s : List ℕ) (at : Starts) (i : ℕ) {x y : ValueRow} {v : Bool} → (i ≡ 0 → ⊥) → x ≡ valueRow s at (i - 1) → y ≡ valueRow s at i
     → v ≡ (ltb (x .home) (y .home) || (eqb (x .home) (y .home) && ltb (x .cell) (y .cell))) → v ≡ rises (routine s at) i
 next-rises s at zero n e f g = absurd (n refl)

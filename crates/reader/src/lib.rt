@@ -1,4 +1,4 @@
-// The reader: refusals 1 to 6 for every slice of bytes, and the types of a well-formed file's expression rows.
+// The reader: refusals 1 to 6 and 10 for every slice of bytes, and the types of a well-formed file's expression rows.
 use rules::ReadAnswer;
 ghost use mathlib.Core.Path.{_≡_};
 ghost use lib.ListN.{length};
@@ -7,7 +7,7 @@ ghost use Rattle.reader.specs.Tables.{ReadTyped};
 
 mod range; // range.rt: whether a row is in range, refusal 3
 mod front; // front.rt: the sections front to back, refusals 1 to 5
-mod shape; // shape.rt: the table of types, and refusal 6
+mod shape; // shape.rt: the table of types, and refusals 10 and 6
 
 // What the rules say of a file: where its sections start, or its first refusal.
 pub fn read(file: &[u8]) -> ReadAnswer

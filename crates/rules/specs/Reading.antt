@@ -7,7 +7,7 @@ use lib.Dec.{ltb, leb, eqb}
 use Rattle.rules.specs.declared.Starts.{Starts}
 use Rattle.rules.specs.declared.Section.{Section}
 use Rattle.rules.specs.declared.Section.the-variants.{Types, Homes, Exprs, Commands, Values}
-use Rattle.rules.specs.Table.{Expr, Command, StartRow, Routine, exprAt, commandAt, literal, home, cast, null, sum, read, op, skip, seq, store, ifElse, while}
+use Rattle.rules.specs.Table.{Expr, Command, StartRow, Routine, exprAt, commandAt, startRowAt, literal, home, cast, null, sum, read, op, skip, seq, store, ifElse, while}
 use Rattle.rules.specs.Basic.{byte, half, choose, inRange, Verdict, fine, unlessRefused, guard, scan, firstBad}
 
 -- ---- the sections (RULES 1.2)
@@ -62,14 +62,18 @@ commandGood E i Command.none = false
 abbrev pub commandSpare : ℕ → ℕ → ℕ → ℕ → Bool
 commandSpare tag a b c = getD ((eqb a 0 && (eqb b 0 && eqb c 0)) ∷ eqb c 0 ∷ eqb c 0 ∷ true ∷ eqb c 0 ∷ []) tag true
 
--- Row i of a section, at place q. The size of home g stands at h + 4 * g, where the homes' count stands at h.
+-- A start row of a file with H homes of these sizes: a cell of a home (RULES 1.10).
+abbrev pub valueGood : ℕ → (ℕ → ℕ) → StartRow → Bool
+valueGood H size x = inRange 1 (x .home) H && ltb (x .cell) (size (x .home))
+
+-- Row i of a section, at place q. Where the homes' count stands at h, the size of home g stands at h + 4 * g.
 unfoldable pub rowGood : List ℕ → Section → ℕ → ℕ → Bool
 rowGood s Types i q = leb (half s q) i
 rowGood s (Homes T) i q = inRange 1 (half s q) T && inRange 1 (half s (q + 2)) 1024
 rowGood s (Exprs T H) i q = exprSpare (byte s q) (half s (q + 1)) (half s (q + 3)) && exprGood T H i (exprAt s q)
 rowGood s (Commands E) i q =
     commandSpare (byte s q) (half s (q + 1)) (half s (q + 3)) (half s (q + 5)) && commandGood E i (commandAt s q)
-rowGood s (Values h) i q = inRange 1 (half s q) (half s h) && ltb (half s (q + 2)) (half s (h + 4 * half s q))
+rowGood s (Values h) i q = valueGood (half s h) (λ g. half s (h + 4 * g)) (startRowAt s q)
 
 -- ---- reading front to back
 

@@ -1,4 +1,4 @@
--- The public call: refusals 1 to 8 as judged, then 9, then the run.
+-- The public call: refusals as judged, then 9, then the run.
 use mathlib.Core.Path.{_≡_, sym, ap, _∙_}
 use mathlib.Core.Bool.{true, false}
 use Prim.Native.Nat.{ℕ, suc, _+_, _*_, _-_, _<_, _≤_}

@@ -1,5 +1,5 @@
 -- The start values, row by row: each is written in its cell, over what stands there.
-use mathlib.Core.Path.{_≡_, refl, sym, ap, _∙_}
+use mathlib.Core.Path.{_≡_, refl, ap, _∙_}
 use Prim.Native.Nat.{ℕ, zero, suc, _+_, _-_, _<_, _≤_}
 use native.Mathlib.Numerals.{add-one}
 use native.Mathlib.Omega.{arith}
@@ -11,7 +11,7 @@ use Rattle.rules.specs.Table.{Routine, routine}
 use Rattle.rules.specs.Shape.{homeAt}
 use Rattle.rules.specs.Kinds.{kind}
 use Rattle.rules.specs.Memory.{encode}
-use Rattle.rules.specs.Run.{givenValue, startCells, cleared, given, start}
+use Rattle.rules.specs.Run.{givenValue, cleared, given, start}
 use Rattle.rules.specs.Calls.{cellCount}
 use Rattle.laws.specs.WellRead.{WellRead}
 use Rattle.laws.specs.Formed.{Formed}

@@ -1,7 +1,7 @@
 -- `shape::shaped` meets its contract: the first test that a row fails refuses it, and behind one that all pass the next one decides. Assumes nothing.
 use mathlib.Core.Path.{_∙_}
 use Rattle.reader.proofs.Shapes.{test-fails, test-passes, fromValues, fromCommands, fromExprs, behind-is}
-use Rattle.reader.specs.declared.shape.Test.the-variants.{Rising, Exprs, Commands, Values}
+use Rattle.reader.specs.declared.shape.Test.the-variants.{Rising, Exprs, Commands}
 use borrow.Author.Needs.{needs}
 use Rattle.reader.proofs.shape.shaped.Statement.{statement}
 use Rattle.reader.proofs.shape.shaped.Tie as tie
