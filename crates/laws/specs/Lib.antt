@@ -14,6 +14,7 @@ pub mod Known
 pub mod Formed
 pub mod Read
 pub mod Front
+pub mod Empty
 -- Runs: values, stores, steps, soundness, the starting memory and its start values, units, prefixes, lent memory.
 pub mod Values
 pub mod Store

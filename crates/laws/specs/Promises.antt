@@ -3,7 +3,7 @@ use mathlib.Core.Path.{_≡_}
 use mathlib.Core.Logic.{_⊎_}
 use mathlib.Core.Bool.{true}
 use Prim.Native.Nat.{ℕ, suc, _+_, _-_, _%_, _≤_, _<_}
-use mathlib.Core.List.{List, _∷_, _++_}
+use mathlib.Core.List.{List, [], _∷_, _++_}
 use lib.ListN.{length, getD, drop, take, replicate}
 use Rattle.rules.specs.declared.Value.{Value}
 use Rattle.rules.specs.declared.Value.the-variants.{Number, Pair}
@@ -280,3 +280,8 @@ pub record SameCalls (s z : List ℕ) : Type 0 where
 
 abbrev pub FirstBytesDecide : Type 0
 FirstBytesDecide = (s : List ℕ) → SameCalls s (take 15113 s)
+
+-- A fifth section with no rows says what none says: behind a file that stops after its commands it changes no answer, and no entry.
+abbrev pub NoRowsIsNone : Type 0
+NoRowsIsNone = (s : List ℕ) (at : Starts) → formed s ≡ fine at → at .values ≡ length s
+    → let z = s ++ 0 ∷ 0 ∷ [] in (formed z ≡ fine at) × SameCalls s z
