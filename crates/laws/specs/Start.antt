@@ -57,11 +57,11 @@ null-small SAFE = lit< tt
 null-small SEQ = lit< tt
 null-small DYNAMIC = lit< tt
 
-blank-small : (s t : Kind) → Small (startValue s t)
-blank-small int t = lit< tt
-blank-small SAFE t = null-small t
-blank-small SEQ t = null-small t
-blank-small DYNAMIC t = lit< tt
+start-small : (s t : Kind) → Small (startValue s t)
+start-small int t = lit< tt
+start-small SAFE t = null-small t
+start-small SEQ t = null-small t
+start-small DYNAMIC t = lit< tt
 
 pub given-small : (k : Kind) (n : ℕ) → n < width → Small (givenValue k n)
 given-small int n l = l
@@ -107,7 +107,7 @@ module _ (r : Routine) (m : List ℕ) where
     blank-cell g a l i =
         let k : a - 1 < length (startCells r m hs) = rw (length-start hs) (omega (arith, i .from, i .to, low g (formed .consecutive) l, high g (formed .consecutive) l)) in
         rw (List·getD-append (startCells r m hs) (drop (length (startCells r m hs)) lent) 0 (a - 1) k, filled g a (formed .consecutive) i)
-        (decode-encode (startValue (kind m (homeAt hs g .type)) (kind m (r .target (homeAt hs g .type)))) (blank-small (kind m (homeAt hs g .type)) (kind m (r .target (homeAt hs g .type)))))
+        (decode-encode (startValue (kind m (homeAt hs g .type)) (kind m (r .target (homeAt hs g .type)))) (start-small (kind m (homeAt hs g .type)) (kind m (r .target (homeAt hs g .type)))))
 
     -- A cell of home g, before the start values.
     pub blank-at : (g a : ℕ) → Real (r .homes) g → In (homeAt (r .homes) g) a
