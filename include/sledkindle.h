@@ -34,8 +34,8 @@ extern "C" {
  *   8 the marking breaks a kind rule                             place: the row
  *   9 what was lent is too short                                 place: the length needed
  *  10 a start value's row does not rise, by home, then cell      place: the row
- * The places of 1 to 6, 8 and 10 are byte offsets in the file. The first refusal in the order 1 to 5, 10,
- * 6 to 9 is the one given. */
+ * The places of 1 to 6, 8 and 10 are byte offsets in the file. The first refusal met is given: 1 to 4
+ * front to back, then 5, 10, 6, 7, 8, 9. */
 struct sledkindle_answer {
     uint32_t number;
     uint32_t place;
