@@ -40,7 +40,7 @@ use Rattle.view.specs.Typed.{type-by-rule, type-in-range}
 use Rattle.reader.specs.declared.shape.Test.{Test}
 use Rattle.reader.specs.declared.shape.Test.the-variants.{Rising, Exprs, Commands, Values}
 use Rattle.reader.proofs.shape.Test as tests
-use Rattle.reader.specs.Tables.{TypedTo, TypeTable, countOf, passesAt, placeOf, numberOf, judgedFrom, judged, formedBehind, ReadTyped}
+use Rattle.reader.specs.Tables.{TypedTo, TypeTable, countOf, passesAt, placeOf, numberOf, testedFrom, tested, formedBehind, ReadTyped}
 
 -- ---- an expression row in hand, with a table that has the types of those before it
 
@@ -293,28 +293,28 @@ places {at = at} y =
     (omega (arith, y .commands-at, y .values-at), omega (arith, y .values-at), omega arith)
 
 -- At row i of n: the rest of the rows is judged as all of them are.
-pub record JudgedSoFar (s : List ℕ) (at : Starts) (k : Test) (n i : ℕ) : Type 0 where
-  pub rest : judged s at k (λ _. fine at) ≡ judgedFrom s at k i (n - i) (λ _. fine at)
+pub record TestedSoFar (s : List ℕ) (at : Starts) (k : Test) (n i : ℕ) : Type 0 where
+  pub rest : tested s at k (λ _. fine at) ≡ testedFrom s at k i (n - i) (λ _. fine at)
   pub count : n ≡ countOf (routine s at) k
   pub within : i ≤ n
 
-pub judged-start : (s : List ℕ) (at : Starts) (k : Test) (n : ℕ) → n ≡ countOf (routine s at) k → JudgedSoFar s at k n 0
-judged-start s at k n count = let e : countOf (routine s at) k ≡ n - 0 = omega arith in record { rest = rw e; count = count; within = omega arith }
+pub tested-start : (s : List ℕ) (at : Starts) (k : Test) (n : ℕ) → n ≡ countOf (routine s at) k → TestedSoFar s at k n 0
+tested-start s at k n count = let e : countOf (routine s at) k ≡ n - 0 = omega arith in record { rest = rw e; count = count; within = omega arith }
 
-module _ {s : List ℕ} {at : Starts} {k : Test} {n i : ℕ} (so-far : JudgedSoFar s at k n i) where
+module _ {s : List ℕ} {at : Starts} {k : Test} {n i : ℕ} (so-far : TestedSoFar s at k n i) where
   module _ (less : i < n) where
-    one-row : judgedFrom s at k i (n - i) (λ _. fine at) ≡ guard (numberOf k) (placeOf at k i) (passesAt (routine s at) k i) λ _. judgedFrom s at k (i + 1) (n - (i + 1)) (λ _. fine at)
-    unfolding judgedFrom
+    one-row : testedFrom s at k i (n - i) (λ _. fine at) ≡ guard (numberOf k) (placeOf at k i) (passesAt (routine s at) k i) λ _. testedFrom s at k (i + 1) (n - (i + 1)) (λ _. fine at)
+    unfolding testedFrom
     one-row = let e : n - i ≡ suc (n - (i + 1)) = omega arith in rw (e, add-one i)
 
-    pub row-fails : {m p : ℕ} → m ≡ numberOf k → p ≡ placeOf at k i → passesAt (routine s at) k i ≡ false → refused m p ≡ judged s at k (λ _. fine at)
+    pub row-fails : {m p : ℕ} → m ≡ numberOf k → p ≡ placeOf at k i → passesAt (routine s at) k i ≡ false → refused m p ≡ tested s at k (λ _. fine at)
     row-fails {p = p} d h g = ap (λ x. refused x p) d ∙ ap (λ x. refused (numberOf k) x) h ∙ sym (so-far .rest ∙ one-row ∙ rw g)
 
-    pub row-passed : passesAt (routine s at) k i ≡ true → JudgedSoFar s at k n (i + 1)
+    pub row-passed : passesAt (routine s at) k i ≡ true → TestedSoFar s at k n (i + 1)
     row-passed g = record { rest = so-far .rest ∙ one-row ∙ rw g; count = so-far .count; within = omega arith }
 
-  pub all-passed : n ≤ i → fine at ≡ judged s at k (λ _. fine at)
-  unfolding judgedFrom
+  pub all-passed : n ≤ i → fine at ≡ tested s at k (λ _. fine at)
+  unfolding testedFrom
   all-passed l = let e : n - i ≡ 0 = omega arith in sym (so-far .rest ∙ rw e)
 
 -- ---- one test after the other
@@ -326,10 +326,10 @@ module _ (s : List ℕ) (at : Starts) (k : Test) (go : Unit {0} → Verdict Star
   one-then p true u v h = h
   one-then p false u v h = refl
 
-  judged-then : (i n : ℕ) → judgedFrom s at k i n go ≡ unlessRefused (judgedFrom s at k i n (λ _. fine at)) (λ _. go tt)
-  unfolding judgedFrom
-  judged-then i zero = refl
-  judged-then i (suc n) = one-then (placeOf at k i) (passesAt (routine s at) k i) _ _ (judged-then (suc i) n)
+  tested-then : (i n : ℕ) → testedFrom s at k i n go ≡ unlessRefused (testedFrom s at k i n (λ _. fine at)) (λ _. go tt)
+  unfolding testedFrom
+  tested-then i zero = refl
+  tested-then i (suc n) = one-then (placeOf at k i) (passesAt (routine s at) k i) _ _ (tested-then (suc i) n)
 
 -- What comes after an answer.
 halts : (r : ReadAnswer) (go : Starts → Verdict Starts) → tagOf answers.the-type r ≡ 1 → readSays r ≡ unlessRefused (readSays r) go
@@ -340,29 +340,35 @@ goes : (r : ReadAnswer) (v : Verdict Starts) → tagOf answers.the-type r ≡ 0 
 goes (WellFormed at) v h = refl
 goes (Refused m) v h = absurd (omega arith)
 
-module _ (s : List ℕ) (at : Starts) (k : Test) (r : ReadAnswer) (first : readSays r ≡ judged s at k (λ _. fine at)) (go : Unit {0} → Verdict Starts) where
-  then-is : judged s at k go ≡ unlessRefused (readSays r) (λ _. go tt)
-  then-is = judged-then s at k go 0 (countOf (routine s at) k) ∙ ap (λ x. unlessRefused x (λ _. go tt)) (sym first)
+-- The tests in order: what follows each.
+abbrev fromValues : List ℕ → Starts → Verdict Starts
+fromValues s at = tested s at Values λ _. fine at
 
-  pub test-fails : tagOf answers.the-type r ≡ 1 → readSays r ≡ judged s at k go
+abbrev fromCommands : List ℕ → Starts → Verdict Starts
+fromCommands s at = tested s at Commands λ _. fromValues s at
+
+abbrev fromExprs : List ℕ → Starts → Verdict Starts
+fromExprs s at = tested s at Exprs λ _. fromCommands s at
+
+abbrev pub then : List ℕ → Starts → Test → Verdict Starts
+then s at Rising = fromExprs s at
+then s at Exprs = fromCommands s at
+then s at Commands = fromValues s at
+then s at Values = fine at
+
+module _ (s : List ℕ) (at : Starts) (k : Test) (r : ReadAnswer) (first : readSays r ≡ tested s at k (λ _. fine at)) where
+  then-is : tested s at k (λ _. then s at k) ≡ unlessRefused (readSays r) (λ _. then s at k)
+  then-is = tested-then s at k (λ _. then s at k) 0 (countOf (routine s at) k) ∙ ap (λ x. unlessRefused x (λ _. then s at k)) (sym first)
+
+  pub test-fails : tagOf answers.the-type r ≡ 1 → readSays r ≡ tested s at k (λ _. then s at k)
   test-fails h = halts r _ h ∙ sym then-is
 
-  pub test-passes : {v : Verdict Starts} → tagOf answers.the-type r ≡ 0 → v ≡ go tt → v ≡ judged s at k go
+  pub test-passes : {v : Verdict Starts} → tagOf answers.the-type r ≡ 0 → v ≡ then s at k → v ≡ tested s at k (λ _. then s at k)
   test-passes h second = second ∙ sym (then-is ∙ goes r _ h)
 
--- The tests in order.
-abbrev pub fromValues : List ℕ → Starts → Verdict Starts
-fromValues s at = judged s at Values λ _. fine at
-
-abbrev pub fromCommands : List ℕ → Starts → Verdict Starts
-fromCommands s at = judged s at Commands λ _. fromValues s at
-
-abbrev pub fromExprs : List ℕ → Starts → Verdict Starts
-fromExprs s at = judged s at Exprs λ _. fromCommands s at
-
-pub behind-is : (s : List ℕ) (at : Starts) → judged s at Rising (λ _. fromExprs s at) ≡ formedBehind s at
-unfolding formedBehind rising shape judgedFrom
-behind-is s at = refl
+pub behind-is : (s : List ℕ) (at : Starts) {v : Verdict Starts} → v ≡ tested s at Rising (λ _. then s at Rising) → v ≡ formedBehind s at
+unfolding formedBehind rising shape testedFrom
+behind-is s at h = h
 
 -- ---- the whole
 

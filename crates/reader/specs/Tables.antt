@@ -42,11 +42,11 @@ numberOf Commands = 6
 numberOf Values = 6
 
 -- The refusal over n rows, from number i on; over all.
-unfoldable pub judgedFrom : {X : Type 0} → List ℕ → Starts → Test → ℕ → ℕ → (Unit {0} → Verdict X) → Verdict X
-judgedFrom s at k i n go = firstBad (numberOf k) (λ j. passesAt (routine s at) k j) (λ j. placeOf at k j) i n go
+unfoldable pub testedFrom : {X : Type 0} → List ℕ → Starts → Test → ℕ → ℕ → (Unit {0} → Verdict X) → Verdict X
+testedFrom s at k i n go = firstBad (numberOf k) (λ j. passesAt (routine s at) k j) (λ j. placeOf at k j) i n go
 
-abbrev pub judged : {X : Type 0} → List ℕ → Starts → Test → (Unit {0} → Verdict X) → Verdict X
-judged s at k go = judgedFrom s at k 0 (countOf (routine s at) k) go
+abbrev pub tested : {X : Type 0} → List ℕ → Starts → Test → (Unit {0} → Verdict X) → Verdict X
+tested s at k go = testedFrom s at k 0 (countOf (routine s at) k) go
 
 -- Refusals 10 and 6, which come after 1 to 5.
 unfoldable pub formedBehind : List ℕ → Starts → Verdict Starts

@@ -21,7 +21,7 @@ ghost use Rattle.rules.specs.Reading.{rises};
 ghost use Rattle.rules.specs.Shape.{typeOf, exprShaped, commandShaped, valueShaped};
 ghost use Rattle.rules.specs.Calls.{readSays};
 ghost use Rattle.laws.specs.WellRead.{WellRead};
-ghost use Rattle.reader.specs.Tables.{TypedTo, TypeTable, countOf, passesAt, placeOf, numberOf, judged, formedBehind};
+ghost use Rattle.reader.specs.Tables.{TypedTo, TypeTable, countOf, passesAt, placeOf, numberOf, tested, formedBehind};
 
 // What rows are judged for, in this order: that start rows rise; the shape of expressions, of commands and of start rows.
 pub enum Test {
@@ -181,7 +181,7 @@ fn count_of(file: &[u8], at: Starts, test: Test) -> usize
 // The first row that does not pass.
 fn rows_pass(file: &[u8], at: Starts, ty: &[u16; 1024], test: Test) -> ReadAnswer
     requires { ⌜ TypedTo (now file) at (half (now file) (at .exprs)) (now ty) ⌝ }
-    ensures { λ r. ⌜ readSays r ≡ judged (now (file .entry)) at test (λ _. fine at) ⌝ }
+    ensures { λ r. ⌜ readSays r ≡ tested (now (file .entry)) at test (λ _. fine at) ⌝ }
 {
     let n = count_of(file, at, test);
     let mut i = 0;

@@ -4,12 +4,12 @@ use Prim.Native.Nat.{_-_}
 use mathlib.Core.Path.{sym, _∙_}
 use borrow.Author.Needs.{needs}
 use borrow.Author.Tests.{not-true, not-false}
-use Rattle.reader.proofs.Shapes.{JudgedSoFar, judged-start, few-rows, places, row-fails, row-passed, all-passed}
+use Rattle.reader.proofs.Shapes.{TestedSoFar, tested-start, few-rows, places, row-fails, row-passed, all-passed}
 use Rattle.reader.proofs.shape.rows_pass.Statement.{statement}
 use Rattle.reader.proofs.shape.rows_pass.Tie as tie
 
 abbrev Inv-loop : tie.InvT-loop
-Inv-loop file at ty test n i₀ i = JudgedSoFar file at test n i
+Inv-loop file at ty test n i₀ i = TestedSoFar file at test n i
 
 abbrev μ-loop : tie.MeasureT-loop
 μ-loop file at ty test n i₀ i = n - i
@@ -18,7 +18,7 @@ count-of-requires : tie.Need-count-of-requires Inv-loop μ-loop
 count-of-requires c κs = c .before .pre .file
 
 loop-holds : tie.Need-loop-holds Inv-loop μ-loop
-loop-holds c = judged-start (c .before .before .args .file .now) (c .before .before .args .at) (c .before .before .args .test) _ (c .count-of .ensures)
+loop-holds c = tested-start (c .before .before .args .file .now) (c .before .before .args .at) (c .before .before .args .test) _ (c .count-of .ensures)
 
 row-passes-requires : tie.Need-row-passes-requires Inv-loop μ-loop
 row-passes-requires c κs = (c .before .before .before .before .pre, omega (arith, c .before .loop .inv .count))
