@@ -135,8 +135,12 @@ abbrev disc : List ℕ
 disc = tray (sect (startRow 1 0 7 ∷ startRow 1 2 9 ∷ []))
 
 -- Home 2's cell is a reference.
-abbrev flagged : List ℕ
-flagged = file (typeRow 0 ∷ typeRow 1 ∷ []) (homeRow 1 3 ∷ homeRow 2 1 ∷ []) [] (skip ∷ []) ++ sect (startRow 1 1 7 ∷ startRow 2 0 7 ∷ [])
+abbrev flagged : List (List ℕ) → List (List ℕ) → List (List ℕ) → List ℕ
+flagged exprs commands values = file (typeRow 0 ∷ typeRow 1 ∷ []) (homeRow 1 3 ∷ homeRow 2 1 ∷ []) exprs commands ++ sect values
+
+-- 4,097 cells.
+abbrev crowded : List (List ℕ) → List ℕ
+crowded values = file (typeRow 0 ∷ []) (homeRow 1 1024 ∷ homeRow 1 1024 ∷ homeRow 1 1024 ∷ homeRow 1 1024 ∷ homeRow 1 1 ∷ []) [] (skip ∷ []) ++ sect values
 
 -- ---- the table
 
@@ -223,7 +227,10 @@ cases =
     ∷ case (disc ++ 0 ∷ []) (0 ∷ []) false plenty (refused 4 59) asLent
     ∷ case (tray (sect (startRow 1 2 7 ∷ startRow 1 0 9 ∷ []))) (0 ∷ []) false plenty (refused 10 51) asLent
     ∷ case (tray (sect (startRow 1 2 7 ∷ startRow 1 2 7 ∷ []))) (0 ∷ []) false plenty (refused 10 51) asLent
-    ∷ case flagged (0 ∷ 0 ∷ []) false plenty (refused 6 37) asLent
+    ∷ case (crowded (startRow 2 0 7 ∷ startRow 1 0 7 ∷ [])) (0 ∷ []) false plenty (refused 5 22) asLent
+    ∷ case (flagged [] (skip ∷ []) (startRow 2 0 7 ∷ startRow 1 1 7 ∷ [])) (0 ∷ 0 ∷ []) false plenty (refused 10 37) asLent
+    ∷ case (flagged [] (skip ∷ []) (startRow 1 1 7 ∷ startRow 2 0 7 ∷ [])) (0 ∷ 0 ∷ []) false plenty (refused 6 37) asLent
+    ∷ case (flagged (literal 5 ∷ []) (store 0 0 ∷ []) (startRow 2 0 7 ∷ [])) (0 ∷ 0 ∷ []) false plenty (refused 6 25) asLent
     ∷ []
 
 -- ---- least, computed over all markings
