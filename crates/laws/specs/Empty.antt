@@ -20,7 +20,7 @@ use Rattle.rules.specs.Run.{run}
 use Rattle.rules.specs.Calls.{formed, judged, checking, lentEnough, cellCount, inferable, Left, Ended, orLeave, reported, Inferred, left, marked, runnable, running}
 use Rattle.rules.specs.Tested.{passed}
 use Rattle.laws.specs.Promises.{SameCalls, NoRowsIsNone}
-use Rattle.laws.specs.Known.{none-past, reading-sections, formed-reading}
+use Rattle.laws.specs.Known.{none-past, fifth-none, reading-sections, formed-reading}
 
 module _ (s : List ℕ) where
   abbrev z : List ℕ
@@ -115,10 +115,6 @@ module _ (s : List ℕ) where
     no-rows : half z (at .values) ≡ 0
     no-rows = half-same (at .values) ∙ rw (ends, none-past s)
 
-    none-there : (go : ℕ → Verdict Starts) → fifth s at go ≡ go (at .values)
-    unfolding fifth
-    none-there go = rw (eq-eqb (at .values) (length s) ends)
-
     empty-there : (go : ℕ → Verdict Starts) → fifth z at go ≡ go (at .values + 2)
     unfolding fifth section rows
     empty-there go =
@@ -132,7 +128,7 @@ module _ (s : List ℕ) where
         let e : sections s ≡ fine at = reading-sections s at h in
         let l : at .values + 2 ≡ length z = omega (arith, longer) in
         rw (sections-pass at e, empty-there, eq-eqb (at .values + 2) (length z) l, cells-pass at, half-same (at .homes))
-        (rw (e, none-there, eq-eqb (at .values) (length s) ends) at h)
+        (rw (e, fifth-none s at ends, eq-eqb (at .values) (length s) ends) at h)
 
     formed-pass : formed s ≡ fine at → formed z ≡ fine at
     unfolding formed

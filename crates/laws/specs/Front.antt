@@ -19,8 +19,8 @@ use Rattle.rules.specs.Calls.{formed, judged, checking, Left, inferable, Inferr
 use Rattle.rules.specs.Tested.{refused-fine}
 use Rattle.rules.specs.Tests.{false-true, in-range}
 use Rattle.laws.specs.Promises.{FirstBytes, SameCalls, FirstBytesDecide}
-use Rattle.laws.specs.WellRead.{Four, Fifth, absent, present, WellRead}
-use Rattle.laws.specs.Known.{sections-known, reading-known}
+use Rattle.laws.specs.WellRead.{Placed, Fifth, absent, present, WellRead}
+use Rattle.laws.specs.Known.{sections-known, values-near, reading-known}
 
 guard-same : {X : Type 0} (n p : ℕ) (b c : Bool) (go go′ : Unit {0} → Verdict X) → b ≡ c → (b ≡ true → go tt ≡ go′ tt) → guard n p b go ≡ guard n p c go′
 guard-same n p true true go go′ e h = h refl
@@ -94,14 +94,12 @@ module _ {s z : List ℕ} (x : Long s z) where
       section-agree (Commands e) _ _ _ tt (omega arith) (λ j l. omega arith) (λ c l₄. refl))))
 
   -- Both go on behind the commands, with a byte to spare behind the start values.
-  behind-agree : (at : Starts) → Four z at → (go go′ : ℕ → Verdict Starts) → ((end : ℕ) → end ≤ 15112 → go end ≡ go′ end) → fifth s at go ≡ fifth z at go′
+  behind-agree : (at : Starts) → Placed z at → (go go′ : ℕ → Verdict Starts) → ((end : ℕ) → end ≤ 15112 → go end ≡ go′ end) → fifth s at go ≡ fifth z at go′
   unfolding fifth Before
   behind-agree at y go go′ h =
-      let v : at .values ≤ 13062
-      = omega (arith, y .types-at, y .homes-at, y .exprs-at, y .commands-at, y .values-at, y .types .few, y .homes .few, y .exprs .few, y .commands .few) in
-      let k : at .homes + 2 + 4 * half z (at .homes) ≤ 15112 = omega (arith, y .types-at, y .homes-at, y .types .few, y .homes .few) in
-      rw (ne-eqb (at .values) (length s) (λ q. omega (arith, x .first)), ne-eqb (at .values) (length z) (λ q. omega (arith, x .second)))
-      (section-agree (Values (at .homes)) (at .values) _ _ k (omega arith) (λ j l. omega arith) (λ n l. h _ (omega arith)))
+      let k : at .homes + 2 + 4 * half z (at .homes) ≤ 15112 = omega (arith, y .near, y .homes .few) in
+      rw (ne-eqb (at .values) (length s) (λ q. omega (arith, x .first, y .far)), ne-eqb (at .values) (length z) (λ q. omega (arith, x .second, y .far)))
+      (section-agree (Values (at .homes)) (at .values) _ _ k (omega (arith, y .far)) (λ j l. omega (arith, y .far)) (λ n l. h _ (omega (arith, y .far))))
 
   reading-agree : reading s ≡ reading z
   unfolding reading
@@ -112,7 +110,7 @@ module _ {s z : List ℕ} (x : Long s z) where
           ≡ unlessRefused v (λ at. fifth z at λ end. guard 4 end (eqb end (length z)) λ _. cells z (at .homes + 2) 0 (half z (at .homes)) λ _. fine at)
       by-sections (refused n p) e = refl
       by-sections (fine at) e =
-          behind-agree at (sections-known z at e) _ _ (λ end l.
+          behind-agree at (sections-known z at e .0) _ _ (λ end l.
           let a = ne-eqb end (length s) (λ q. omega (arith, x .first)) in
           let b = ne-eqb end (length z) (λ q. omega (arith, x .second)) in
           guard-same 4 _ _ _ _ _ (a ∙ sym b) (λ q. false-true (sym a ∙ q)))
@@ -124,7 +122,7 @@ fifth-short (present w e) = omega (arith, w .few)
 
 -- A file that earns none of refusals 1 to 5 has 15,112 bytes at most.
 read-short : {s : List ℕ} {at : Starts} → WellRead s at → length s ≤ 15112
-read-short y = omega (arith, y .types-at, y .homes-at, y .exprs-at, y .commands-at, y .values-at, fifth-short (y .values), y .types .few, y .homes .few, y .exprs .few, y .commands .few)
+read-short y = omega (arith, values-near y, fifth-short (y .values))
 
 -- A file is all there in its first n bytes, or both are refused, and alike.
 data Cut (s z : List ℕ) : Type 0 where

@@ -7,7 +7,7 @@ use native.Mathlib.Omega.{arith}
 use mathlib.Core.List.{List}
 use lib.ListN.{length, List·getD-eq-default}
 use lib.Dec.{leb, eqb}
-use borrow.Author.Tests.{leb-true, eqb-true}
+use borrow.Author.Tests.{leb-true, eqb-true, eq-eqb}
 use Rattle.rules.specs.declared.Starts.{Starts}
 use Rattle.rules.specs.declared.Section.{Section}
 use Rattle.rules.specs.declared.Section.the-variants.{Types, Values}
@@ -18,7 +18,7 @@ use Rattle.rules.specs.Shape.{exprShaped, commandShaped, valueShaped, shape}
 use Rattle.rules.specs.Calls.{formed}
 use Rattle.rules.specs.Tested.{refused-fine, passed, scan-fine, none-bad}
 use Rattle.rules.specs.Tests.{in-range, fine-same}
-use Rattle.laws.specs.WellRead.{Whole, Four, Fifth, absent, present, WellRead}
+use Rattle.laws.specs.WellRead.{Whole, Placed, Fifth, absent, present, WellRead}
 
 -- ---- refusals 1 to 3: a section
 
@@ -69,6 +69,10 @@ cells-known s q before from (suc n) go x l h =
 
 -- ---- the start values
 
+pub fifth-none : {X : Type 0} (s : List ℕ) (at : Starts) → at .values ≡ length s → (go : ℕ → Verdict X) → fifth s at go ≡ go (at .values)
+unfolding fifth
+fifth-none s at e go = rw (eq-eqb (at .values) (length s) e)
+
 fifth-known : {X : Type 0} (s : List ℕ) (at : Starts) (go : ℕ → Verdict X) (x : X) → fifth s at go ≡ fine x
     → (end : ℕ) × ((end ≡ length s → Fifth s (at .homes) (at .values)) × (go end ≡ fine x))
 unfolding fifth
@@ -107,7 +111,9 @@ module _ {s : List ℕ} {h q : ℕ} where
 
 -- ---- the whole
 
-pub sections-known : (s : List ℕ) (at : Starts) → sections s ≡ fine at → Four s at
+-- The four sections that every file has: what is known behind them, and of the whole file once the rest is.
+pub sections-known : (s : List ℕ) (at : Starts) → sections s ≡ fine at
+    → Placed s at × (Fifth s (at .homes) (at .values) → total (layout s (at .homes + 2) 1 (half s (at .homes))) ≤ 4096 → WellRead s at)
 unfolding sections
 sections-known s at h =
     let (types, h₁) = section-known s Types 0 _ at h in
@@ -115,17 +121,21 @@ sections-known s at h =
     let (exprs, h₃) = section-known s _ _ _ at h₂ in
     let (commands, h₄) = section-known s _ _ _ at h₃ in
     rw (← fine-same h₄) (
-    record {
-      types-at = refl;
-      types = types;
-      homes-at = refl;
-      homes = homes;
-      exprs-at = refl;
-      exprs = exprs;
-      commands-at = refl;
-      commands = commands;
-      values-at = refl;
-    }
+      record { homes = homes; near = omega (arith, types .few); far = omega (arith, types .few, homes .few, exprs .few, commands .few) },
+      λ five few.
+          record {
+            types-at = refl;
+            types = types;
+            homes-at = refl;
+            homes = homes;
+            exprs-at = refl;
+            exprs = exprs;
+            commands-at = refl;
+            commands = commands;
+            values-at = refl;
+            values = five;
+            cells = few;
+          },
     )
 
 -- Behind the four sections: the start values, refusals 4 and 5.
@@ -156,23 +166,12 @@ pub reading-known : (s : List ℕ) (at : Starts) → reading s ≡ fine at → W
 unfolding reading
 reading-known s at h =
     let (at′, (a, b)) = unrefused (sections s) _ at h in
-    let four = sections-known s at′ a in
     let (five, few, e) = behind-known s at′ at b in
-    rw (← e) (
-    record {
-      types-at = four .types-at;
-      types = four .types;
-      homes-at = four .homes-at;
-      homes = four .homes;
-      exprs-at = four .exprs-at;
-      exprs = four .exprs;
-      commands-at = four .commands-at;
-      commands = four .commands;
-      values-at = four .values-at;
-      values = five;
-      cells = few;
-    }
-    )
+    rw (← e) (sections-known s at′ a .1 five few)
+
+-- So the commands end early.
+pub values-near : {s : List ℕ} {at : Starts} → WellRead s at → at .values ≤ 13062
+values-near y = omega (arith, y .types-at, y .homes-at, y .exprs-at, y .commands-at, y .values-at, y .types .few, y .homes .few, y .exprs .few, y .commands .few)
 
 -- ---- refusals 10 and 6
 

@@ -18,17 +18,11 @@ pub record Whole (s : List ℕ) (c : Section) (q : ℕ) : Type 0 where
   pub fits : q + 2 + rowBytes c * half s q ≤ length s
   pub good : (i : ℕ) → i < half s q → rowGood s c i (q + 2 + rowBytes c * i) ≡ true
 
--- The four sections that every file has.
-pub record Four (s : List ℕ) (at : Starts) : Type 0 where
-  pub types-at : at .types ≡ 0
-  pub types : Whole s Types (at .types)
-  pub homes-at : at .homes ≡ at .types + 2 + 2 * half s (at .types)
+-- What the four sections leave for what follows them: the homes are in the file, and by the limits their count and the end of the commands stand early.
+pub record Placed (s : List ℕ) (at : Starts) : Type 0 where
   pub homes : Whole s (Homes (half s (at .types))) (at .homes)
-  pub exprs-at : at .exprs ≡ at .homes + 2 + 4 * half s (at .homes)
-  pub exprs : Whole s (Exprs (half s (at .types)) (half s (at .homes))) (at .exprs)
-  pub commands-at : at .commands ≡ at .exprs + 2 + 5 * half s (at .exprs)
-  pub commands : Whole s (Commands (half s (at .exprs))) (at .commands)
-  pub values-at : at .values ≡ at .commands + 2 + 7 * half s (at .commands)
+  pub near : at .homes ≤ 512
+  pub far : at .values ≤ 13062
 
 -- Behind the commands, at q, the file ends, or its start values are whole and end it. The homes' count stands at h.
 pub data Fifth (s : List ℕ) (h q : ℕ) : Type 0 where

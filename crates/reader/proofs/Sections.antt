@@ -24,8 +24,8 @@ use Rattle.rules.specs.Tests.{in-range}
 use Rattle.reader.specs.declared.front.Step.{Step}
 use Rattle.reader.specs.declared.front.Step.the-variants.{Next, No}
 use Rattle.reader.proofs.front.Step as step
-use Rattle.laws.specs.WellRead.{Four}
-use Rattle.laws.specs.Known.{sections-known}
+use Rattle.laws.specs.WellRead.{Placed}
+use Rattle.laws.specs.Known.{sections-known, fifth-none}
 use Rattle.reader.specs.Steps.{Sighted, of-values, follow, RowsRead, SectionRead, FifthRead, CellsRead, fromEnd, fromValues, fromHomes}
 
 abbrev pub no : ℕ → ℕ → Step
@@ -185,8 +185,7 @@ halts s c q go read e = ap (λ x. follow x go) (sym e) ∙ sym (read .means go)
 module _ (s : List ℕ) (at : Starts) where
   -- The start values are none, or a section.
   pub none-there : at .values ≡ length s → at .values ≤ 30000 → FifthRead s at (Next (at .values) 0)
-  unfolding fifth
-  none-there z l = record { means = λ go. rw (eq-eqb (at .values) (length s) z); near = λ end n d. let x : at .values ≡ end = cc in omega arith }
+  none-there z l = record { means = λ go. fifth-none s at z go; near = λ end n d. let x : at .values ≡ end = cc in omega arith }
 
   pub values-there : {r : Step} → (at .values ≡ length s → ⊥) → at .values ≤ 20000 → SectionRead s (Values (at .homes)) (at .values) r → FifthRead s at r
   unfolding fifth
@@ -222,13 +221,7 @@ sections-is s = refl
 
 -- ---- the four sections, then what follows
 
-pub four-places : {s : List ℕ} {at : Starts} → Four s at → (at .homes ≤ 512) × (at .values ≤ 13062)
-four-places y = (
-  omega (arith, y .types-at, y .homes-at, y .types .few),
-  omega (arith, y .types-at, y .homes-at, y .exprs-at, y .commands-at, y .values-at, y .types .few, y .homes .few, y .exprs .few, y .commands .few),
-)
-
-pub homes-sighted : {s : List ℕ} {at : Starts} → Four s at → Sighted s (Values (at .homes))
+pub homes-sighted : {s : List ℕ} {at : Starts} → Placed s at → Sighted s (Values (at .homes))
 homes-sighted y = of-values (y .homes .fits)
 
 module _ (s : List ℕ) (r : ReadAnswer) (read : readSays r ≡ sections s) where
@@ -244,8 +237,8 @@ module _ (s : List ℕ) (r : ReadAnswer) (read : readSays r ≡ sections s) wher
     were-read : sections s ≡ fine at
     were-read = sym read ∙ ap (λ (x : ReadAnswer). readSays x) is
 
-    pub four-known : Four s at
-    four-known = sections-known s at were-read
+    pub four-placed : Placed s at
+    four-placed = sections-known s at were-read .0
 
     pub four-passed : {v : Verdict Starts} → v ≡ fromValues s at → v ≡ reading s
     unfolding reading

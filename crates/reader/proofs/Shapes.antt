@@ -32,7 +32,7 @@ use Rattle.view.specs.declared.CommandRow.{CommandRow}
 use Rattle.view.specs.declared.ValueRow.{ValueRow}
 use Rattle.rules.specs.Tests.{false-true, parts-true, both-less, in-range, fine-same}
 use Rattle.laws.specs.WellRead.{WellRead}
-use Rattle.laws.specs.Known.{values-few, reading-known}
+use Rattle.laws.specs.Known.{values-few, values-near, reading-known}
 use Rattle.view.specs.Rows.{homeRow, typeRow, exprRow, commandRow, valueRow, HomeAsked, TypeAsked}
 use Rattle.view.specs.Tags.{expr-good-op, command-none}
 use Rattle.view.specs.Means.{expr-means, command-means, home-has, expr-in-range, command-in-range, value-home}
@@ -287,10 +287,7 @@ few-rows s at Commands known = known .commands .few
 few-rows s at Values known = omega (arith, values-few (known .values))
 
 pub places : {s : List ℕ} {at : Starts} → WellRead s at → (at .exprs ≤ 30000) × (at .commands ≤ 30000) × (at .values ≤ 30000)
-places {at = at} y =
-    let v : at .values ≤ 13062
-    = omega (arith, y .types-at, y .homes-at, y .exprs-at, y .commands-at, y .values-at, y .types .few, y .homes .few, y .exprs .few, y .commands .few) in
-    (omega (arith, y .commands-at, y .values-at), omega (arith, y .values-at), omega arith)
+places y = let v = values-near y in (omega (arith, y .commands-at, y .values-at), omega (arith, y .values-at), omega arith)
 
 -- At row i of n: the rest of the rows is judged as all of them are.
 pub record TestedSoFar (s : List ℕ) (at : Starts) (k : Test) (n i : ℕ) : Type 0 where

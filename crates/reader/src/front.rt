@@ -12,7 +12,7 @@ ghost use Prim.Native.Nat.{_+_, _*_, _≤_};
 ghost use lib.ListN.{length};
 ghost use Rattle.rules.specs.Calls.{readSays};
 ghost use Rattle.rules.specs.Reading.{rowBytes, fewest, most, sections, reading};
-ghost use Rattle.laws.specs.WellRead.{Four};
+ghost use Rattle.laws.specs.WellRead.{Placed};
 ghost use Rattle.reader.specs.Steps.{Sighted, RowsRead, SectionRead, FifthRead, CellsRead, fromHomes, fromExprs, fromCommands, fromEnd, fromValues};
 
 // How a part of the reading ends: at the place behind it, with a count of rows; or in a refusal.
@@ -178,7 +178,7 @@ fn four(s: &[u8]) -> ReadAnswer
 
 // The start values, if a byte follows the commands.
 fn fifth(s: &[u8], at: Starts) -> Step
-    requires { ⌜ Four (now s) at ⌝ }
+    requires { ⌜ Placed (now s) at ⌝ }
     ensures { λ r. ⌜ FifthRead (now (s .entry)) at r ⌝ }
 {
     let v = at.values as usize;
@@ -190,7 +190,7 @@ fn fifth(s: &[u8], at: Starts) -> Step
 
 // Behind the start values, at `end`: no spare byte, then the cells.
 fn from_end(s: &[u8], at: Starts, end: usize) -> ReadAnswer
-    requires { ⌜ Four (now s) at × (end ≤ 30000) ⌝ }
+    requires { ⌜ Placed (now s) at × (end ≤ 30000) ⌝ }
     ensures { λ r. ⌜ readSays r ≡ fromEnd (now (s .entry)) at end ⌝ }
 {
     if end != s.len() {
@@ -208,7 +208,7 @@ fn from_end(s: &[u8], at: Starts, end: usize) -> ReadAnswer
 
 // Behind the commands.
 fn from_values(s: &[u8], at: Starts) -> ReadAnswer
-    requires { ⌜ Four (now s) at ⌝ }
+    requires { ⌜ Placed (now s) at ⌝ }
     ensures { λ r. ⌜ readSays r ≡ fromValues (now (s .entry)) at ⌝ }
 {
     match fifth(s, at) {

@@ -1,5 +1,5 @@
 -- `front::whole` meets its contract: one of the four sections is refused, or what follows them decides. Assumes nothing.
-use Rattle.reader.proofs.Sections.{four-refused, four-known, four-passed}
+use Rattle.reader.proofs.Sections.{four-refused, four-placed, four-passed}
 use borrow.Author.Needs.{needs}
 use Rattle.reader.proofs.front.whole.Statement.{statement}
 use Rattle.reader.proofs.front.whole.Tie as tie
@@ -17,7 +17,7 @@ returns : tie.Need-returns
 returns c = four-refused (c .before .before .before .before .args .file .now) (c .before .before .four .result) (c .before .before .four .ensures) (c .before .match .keys2)
 
 from-values-requires : tie.Need-from-values-requires
-from-values-requires c κs = four-known (c .before .before .before .before .before .args .file .now) (c .before .before .before .four .result) (c .before .before .before .four .ensures) (c .before .found .given .1)
+from-values-requires c κs = four-placed (c .before .before .before .before .before .args .file .now) (c .before .before .before .four .result) (c .before .before .before .four .ensures) (c .before .found .given .1)
 
 returns-2 : tie.Need-returns-2
 returns-2 c = four-passed (c .before .before .before .before .before .before .args .file .now) (c .before .before .before .before .four .result) (c .before .before .before .before .four .ensures) (c .before .before .found .given .1) (c .from-values .ensures)
