@@ -69,6 +69,7 @@ cells-known s q before from (suc n) go x l h =
 
 -- ---- the start values
 
+-- None are there where the file stops after the commands.
 pub fifth-none : {X : Type 0} (s : List ℕ) (at : Starts) → at .values ≡ length s → (go : ℕ → Verdict X) → fifth s at go ≡ go (at .values)
 unfolding fifth
 fifth-none s at e go = rw (eq-eqb (at .values) (length s) e)

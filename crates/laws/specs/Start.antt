@@ -183,7 +183,7 @@ module _ (r : Routine) (m : List ℕ) where
     pub start-ok : ValidState r m (start r m lent)
     start-ok = given-ok (r .values) (le-refl (r .values))
 
-    -- So it is the place of a cell.
+    -- A start row's cell is one of the homes' cells.
     pub row-below : (i : ℕ) → i < r .values → homeAt (r .homes) (r .value i .home) .start + r .value i .cell - 1 < total hs
     row-below i l =
         let f = formed .values i l .0 in
