@@ -8,15 +8,14 @@ use native.Mathlib.Omega.{arith}
 use mathlib.Core.List.{List}
 use lib.Dec.{ltb, eqb}
 use borrow.Author.Tests.{ltb-true, eqb-true}
-use Rattle.rules.specs.declared.Value.{Value}
 use Rattle.rules.specs.Table.{StartRow, Routine}
 use Rattle.rules.specs.Reading.{below}
 use Rattle.rules.specs.Shape.{homeAt}
 use Rattle.rules.specs.Kinds.{kind}
 use Rattle.rules.specs.Memory.{State, cell}
-use Rattle.rules.specs.Run.{givenValue, cleared, given, start}
+use Rattle.rules.specs.Run.{startAddress, givenIn, cleared, given, start}
 use Rattle.rules.specs.Tests.{parts-true}
-use Rattle.laws.specs.Promises.{startAddress, Starting, StartingMemory}
+use Rattle.laws.specs.Promises.{Starting, StartingMemory}
 use Rattle.laws.specs.Store.{cell-same, cell-other}
 use Rattle.laws.specs.Formed.{Formed}
 use Rattle.laws.specs.Known.{Rising, formed-rising}
@@ -73,26 +72,23 @@ module _ {r : Routine} (rising : Rising r) where
     abbrev after : ℕ → State
     after n = record { homes = r .homes; memory = given r m n (cleared r m lent) }
 
-    abbrev valueOf : ℕ → Value
-    valueOf i = givenValue (kind m (homeAt (r .homes) (r .value i .home) .type)) (r .value i .value)
-
     positive : (i : ℕ) → i < r .values → 1 ≤ startAddress r (r .value i)
     positive i l = omega (arith, start-laid r m formed lent .low (formed .values i l .0 .home))
 
-    just-given : (n : ℕ) → n < r .values → cell (after (suc n)) (startAddress r (r .value n)) ≡ valueOf n
+    just-given : (n : ℕ) → n < r .values → cell (after (suc n)) (startAddress r (r .value n)) ≡ givenIn r m (r .value n)
     just-given n l =
         let ok = given-ok r m formed lent n (omega arith) in
         let (f, a) = formed .values n l in
-        cell-same ok (startAddress r (r .value n)) (valueOf n) (positive n l)
+        cell-same ok (startAddress r (r .value n)) (givenIn r m (r .value n)) (positive n l)
         (omega (arith, ok .room, ok .laid .high (f .home), f .cell)) (given-small (kind m (homeAt (r .homes) (r .value n .home) .type)) (r .value n .value) (f .value))
 
-    given-cell : (n i : ℕ) → n ≤ r .values → i < n → cell (after n) (startAddress r (r .value i)) ≡ valueOf i
+    given-cell : (n i : ℕ) → n ≤ r .values → i < n → cell (after n) (startAddress r (r .value i)) ≡ givenIn r m (r .value i)
     given-cell zero i l k = absurd (not-suc-le-zero k)
     given-cell (suc n) i l k =
         elim (ℕ-discrete i n) [
           | yes e ↦ rw e (just-given n l)
           | no d ↦
-              cell-other (given-ok r m formed lent n (omega arith)) (startAddress r (r .value n)) (startAddress r (r .value i)) (valueOf n) (positive n l) (positive i (omega arith))
+              cell-other (given-ok r m formed lent n (omega arith)) (startAddress r (r .value n)) (startAddress r (r .value i)) (givenIn r m (r .value n)) (positive n l) (positive i (omega arith))
               (λ e. apart-rows i n (omega arith) l e)
               ∙ given-cell n i (omega arith) (omega arith)
         ]
@@ -100,7 +96,7 @@ module _ {r : Routine} (rising : Rising r) where
     other-cell : (n a : ℕ) → n ≤ r .values → 1 ≤ a → ((i : ℕ) → i < n → a ≡ startAddress r (r .value i) → ⊥) → cell (after n) a ≡ cell (after 0) a
     other-cell zero a l k h = refl
     other-cell (suc n) a l k h =
-        cell-other (given-ok r m formed lent n (omega arith)) (startAddress r (r .value n)) a (valueOf n) (positive n l) k (h n (omega arith))
+        cell-other (given-ok r m formed lent n (omega arith)) (startAddress r (r .value n)) a (givenIn r m (r .value n)) (positive n l) k (h n (omega arith))
         ∙ other-cell n a (omega arith) k (λ i j. h i (omega arith))
 
     starting : Starting r m (start r m lent)

@@ -13,7 +13,7 @@ use Rattle.rules.specs.declared.CheckAnswer.{CheckAnswer}
 use Rattle.rules.specs.declared.InferAnswer.{InferAnswer}
 use Rattle.rules.specs.declared.RunAnswer.{RunAnswer}
 use Rattle.rules.specs.Basic.{byte, half, width, fine, refused, unlessRefused}
-use Rattle.rules.specs.Table.{StartRow, Routine, routine, null}
+use Rattle.rules.specs.Table.{Routine, routine, null}
 use Rattle.rules.specs.Reading.{cells, sections, reading, rises}
 use Rattle.rules.specs.Kinds.{Kind, SAFE, kind, notSafe, sameBelow, same, typeKind, exprKind, commandKind, Acceptable}
 use Rattle.rules.specs.Shape.{homeAt, typeOf, exprShaped, commandShaped, valueShaped, shape}
@@ -22,7 +22,7 @@ use Rattle.rules.specs.Steps.{Step, entered, stored, Told, units}
 use Rattle.rules.specs.Memory.{State, cell, replay}
 use Rattle.rules.specs.Ruled.{Check, check2, gives, fails}
 use Rattle.rules.specs.Values.{convert, reach, moved}
-use Rattle.rules.specs.Run.{Stop, noFuel, failed, noRule, Ran, done, halted, startValue, givenValue, cleared, start, exec, run}
+use Rattle.rules.specs.Run.{Stop, noFuel, failed, noRule, Ran, done, halted, startValue, startAddress, givenIn, cleared, start, exec, run}
 use Rattle.rules.specs.Valid.{In, Real, InHome, Valid, ValidState}
 use Rattle.rules.specs.Calls.{formed, judged, cellCount, outOfFuel, endingOf, stateOf, Left, Ended, Inferred, checking, running, readSays, checkSays, inferSays, runSays, runnable}
 use Rattle.laws.specs.Formed.{Fits, CommandFits, ValueFits}
@@ -109,14 +109,10 @@ Afterwards = (s m : List ℕ) (fuel : ℕ) (lent : List ℕ) → Bytes s → Lea
 
 -- ---- the starting memory
 
--- The address of a start row's cell.
-abbrev pub startAddress : Routine → StartRow → ℕ
-startAddress r x = homeAt (r .homes) (x .home) .start + x .cell
-
 -- The cell of each start row holds its value, and every other cell of a home what its home's kind and its own say.
 pub record Starting (r : Routine) (m : List ℕ) (w : State) : Type 0 where
   pub given : (i : ℕ) → i < r .values
-      → cell w (startAddress r (r .value i)) ≡ givenValue (kind m (homeAt (r .homes) (r .value i .home) .type)) (r .value i .value)
+      → cell w (startAddress r (r .value i)) ≡ givenIn r m (r .value i)
   pub others : (g a : ℕ) → Real (r .homes) g → In (homeAt (r .homes) g) a → ((i : ℕ) → i < r .values → a ≡ startAddress r (r .value i) → ⊥)
       → cell w a ≡ startValue (kind m (homeAt (r .homes) g .type)) (kind m (r .target (homeAt (r .homes) g .type)))
 

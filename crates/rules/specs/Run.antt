@@ -5,7 +5,7 @@ use lib.ListN.{length, replicate, drop, set}
 use Rattle.rules.specs.declared.Value.{Value}
 use Rattle.rules.specs.declared.Value.the-variants.{Number, Pair}
 use Rattle.rules.specs.Basic.{choose}
-use Rattle.rules.specs.Table.{Expr, Command, Home, Routine, literal, home, cast, null, sum, read, op, skip, seq, store, ifElse, while}
+use Rattle.rules.specs.Table.{Expr, Command, StartRow, Home, Routine, literal, home, cast, null, sum, read, op, skip, seq, store, ifElse, while}
 use Rattle.rules.specs.Shape.{homeAt, typeOf}
 use Rattle.rules.specs.Kinds.{Kind, int, SAFE, SEQ, DYNAMIC, kind}
 use Rattle.rules.specs.Steps.{entered, stored, Told, quiet, after}
@@ -155,6 +155,10 @@ givenValue SAFE n = Number n
 givenValue SEQ n = Number n
 givenValue DYNAMIC n = Pair 0 n
 
+-- The address of a start row's cell.
+abbrev pub startAddress : Routine → StartRow → ℕ
+startAddress r x = homeAt (r .homes) (x .home) .start + x .cell
+
 module _ (r : Routine) (m : List ℕ) where
   abbrev pub startCells : List Home → List ℕ
   startCells [] = []
@@ -164,13 +168,14 @@ module _ (r : Routine) (m : List ℕ) where
   abbrev pub cleared : List ℕ → List ℕ
   cleared lent = let cells = startCells (drop 1 (r .homes)) in cells ++ drop (length cells) lent
 
+  -- What a start row's cell starts as.
+  abbrev pub givenIn : StartRow → Value
+  givenIn x = givenValue (kind m (homeAt (r .homes) (x .home) .type)) (x .value)
+
   -- The values of the first n start rows over these entries.
   abbrev pub given : ℕ → List ℕ → List ℕ
   given zero l = l
-  given (suc n) l =
-      let x = r .value n in
-      let h = homeAt (r .homes) (x .home) in
-      set (given n l) (h .start + x .cell - 1) (encode (givenValue (kind m (h .type)) (x .value)))
+  given (suc n) l = set (given n l) (startAddress r (r .value n) - 1) (encode (givenIn (r .value n)))
 
   -- The starting memory is written over the lent cells.
   abbrev pub start : List ℕ → State

@@ -11,7 +11,7 @@ use Rattle.rules.specs.Table.{Routine, routine}
 use Rattle.rules.specs.Shape.{homeAt}
 use Rattle.rules.specs.Kinds.{kind}
 use Rattle.rules.specs.Memory.{encode}
-use Rattle.rules.specs.Run.{givenValue, cleared, given, start}
+use Rattle.rules.specs.Run.{givenValue, startAddress, givenIn, cleared, given, start}
 use Rattle.rules.specs.Calls.{cellCount}
 use Rattle.laws.specs.WellRead.{WellRead}
 use Rattle.laws.specs.Formed.{Formed}
@@ -22,7 +22,6 @@ use Rattle.view.specs.Rows.{homeRow, valueRow}
 use Rattle.view.specs.Means.{home-has, value-home}
 use Rattle.table.specs.Words.{startIn, Homes}
 use Rattle.filling.specs.Filling.{kindAt}
-use Rattle.runner.specs.Whole.{valueEntry, valueCell}
 
 -- ---- an entry
 
@@ -43,7 +42,7 @@ module _ {s : List ℕ} {at : Starts} (known : WellRead s at) {i : ℕ} (less : 
   home-is = ap (λ (x : ValueRow). x .home) is
 
   pub value-entry-is : (m : List ℕ) {home : HomeRow} (k : ℕ) {x : ℕ} → home ≡ homeRow s at (row .home) → kindAt k ≡ kind m (home .ty)
-      → x ≡ encode (givenValue (kindAt k) (row .value)) → x ≡ valueEntry (routine s at) m (routine s at .value i)
+      → x ≡ encode (givenValue (kindAt k) (row .value)) → x ≡ encode (givenIn (routine s at) m (routine s at .value i))
   value-entry-is m {home} k named e h =
       let asked = value-home known less is in
       let a : home .ty ≡ homeAt (routine s at .homes) (row .home) .type
@@ -63,7 +62,7 @@ module _ {s : List ℕ} {at : Starts} (known : WellRead s at) {i : ℕ} (less : 
     pub first-address : 1 ≤ startIn t (row .home)
     first-address = omega (arith, start-is, start-laid (routine s at) [] formed [] .low (formed .values i less .0 .home))
 
-    pub value-cell-is : {from : ℕ} → from ≡ startIn t (row .home) → from + row .cell - 1 ≡ valueCell (routine s at) (routine s at .value i)
+    pub value-cell-is : {from : ℕ} → from ≡ startIn t (row .home) → from + row .cell - 1 ≡ startAddress (routine s at) (routine s at .value i) - 1
     value-cell-is e = let c : row .cell ≡ routine s at .value i .cell = ap (λ (x : ValueRow). x .cell) is in rw (e, start-is, c)
 
 -- ---- the loop
@@ -79,14 +78,14 @@ pub given-none : (s : List ℕ) (at : Starts) (m : List ℕ) (n : ℕ) (l : List
 given-none s at m n l count = record { count = count; within = omega arith; long = refl; same = refl }
 
 module _ {s : List ℕ} {at : Starts} {m : List ℕ} {n i : ℕ} {before l : List ℕ} (so-far : GivenSoFar s at m n i before l) where
-  module _ (less : i < n) {c : ℕ} (cell : c ≡ valueCell (routine s at) (routine s at .value i)) where
+  module _ (less : i < n) {c : ℕ} (cell : c ≡ startAddress (routine s at) (routine s at .value i) - 1) where
     pub given-near : Formed (routine s at) → c < 4096
     given-near formed = omega (arith, cell, row-below (routine s at) m formed [] i (rw (so-far .count) at less), formed .few)
 
     pub given-room : Formed (routine s at) → cellCount (routine s at) ≤ length before → c < length l
     given-room formed room = omega (arith, cell, row-below (routine s at) m formed [] i (rw (so-far .count) at less), so-far .long)
 
-    pub given-next : {x : ℕ} → x ≡ valueEntry (routine s at) m (routine s at .value i) → GivenSoFar s at m n (i + 1) before (set l c x)
+    pub given-next : {x : ℕ} → x ≡ encode (givenIn (routine s at) m (routine s at .value i)) → GivenSoFar s at m n (i + 1) before (set l c x)
     given-next entry =
         record {
           count = so-far .count;

@@ -7,11 +7,9 @@ use Rattle.rules.specs.declared.Starts.{Starts}
 use Rattle.rules.specs.declared.Outcome.the-variants as outcome
 use Rattle.rules.specs.declared.Report.{Report}
 use Rattle.rules.specs.Basic.{choose}
-use Rattle.rules.specs.Table.{StartRow, Routine}
-use Rattle.rules.specs.Shape.{homeAt}
 use Rattle.rules.specs.Kinds.{kind}
 use Rattle.rules.specs.Memory.{encode}
-use Rattle.rules.specs.Run.{startValue, givenValue}
+use Rattle.rules.specs.Run.{startValue}
 use Rattle.view.specs.Rows.{typeRow}
 use Rattle.execute.specs.declared.Ran.{Ran}
 use Rattle.execute.specs.declared.Ran.the-variants.{Done, Fuel, Check}
@@ -23,13 +21,6 @@ spread l from n x = take from l ++ replicate n x ++ drop (from + n) l
 -- The starting entry of the cells of a home of type p.
 abbrev pub entryIn : List ℕ → Starts → List ℕ → ℕ → ℕ
 entryIn s at m p = encode (startValue (kind m p) (kind m (typeRow s at p .target)))
-
--- The entry of a start row, and its place in memory.
-abbrev pub valueEntry : Routine → List ℕ → StartRow → ℕ
-valueEntry r m x = encode (givenValue (kind m (homeAt (r .homes) (x .home) .type)) (x .value))
-
-abbrev pub valueCell : Routine → StartRow → ℕ
-valueCell r x = homeAt (r .homes) (x .home) .start + x .cell - 1
 
 -- The place of a row by its number in the table.
 abbrev pub placeAt : Starts → ℕ → ℕ

@@ -7,18 +7,18 @@ use rules::Report;
 use rules::RunAnswer;
 use rules::Starts;
 ghost use mathlib.Core.Path.{_≡_};
-ghost use Prim.Native.Nat.{ℕ, _+_, _≤_, _<_};
+ghost use Prim.Native.Nat.{ℕ, _+_, _-_, _≤_, _<_};
 ghost use lib.ListN.{length};
 ghost use Rattle.rules.specs.Table.{routine};
 ghost use Rattle.rules.specs.Memory.{encode};
-ghost use Rattle.rules.specs.Run.{startValue, givenValue, cleared, given, run};
+ghost use Rattle.rules.specs.Run.{startValue, givenValue, startAddress, givenIn, cleared, given, run};
 ghost use Rattle.rules.specs.Basic.{half};
 ghost use Rattle.rules.specs.Calls.{cellCount, runSays, reported, running, Left, Ended};
 ghost use Rattle.laws.specs.WellRead.{WellRead};
 ghost use Rattle.laws.specs.Formed.{Formed};
 ghost use Rattle.table.specs.Words.{Homes};
 ghost use Rattle.filling.specs.Filling.{kindAt, Accepted, ReferenceReady};
-ghost use Rattle.runner.specs.Whole.{spread, entryIn, valueEntry, valueCell, placeAt, reportOf, Reportable};
+ghost use Rattle.runner.specs.Whole.{spread, entryIn, placeAt, reportOf, Reportable};
 
 // ---- the starting memory
 
@@ -88,7 +88,7 @@ fn given_entry(k: u8, value: u32) -> u64
 // The same for start row `i`.
 fn value_entry(file: &[u8], at: Starts, marking: &[u8], ty: &[u16; 1024], i: usize) -> u64
     requires { ⌜ Accepted (now file) at (now marking) (now ty) × (i < half (now file) (at .values)) ⌝ }
-    ensures { λ r. ⌜ r ≡ valueEntry (routine (now (file .entry)) at) (now (marking .entry)) (routine (now (file .entry)) at .value i) ⌝ }
+    ensures { λ r. ⌜ r ≡ encode (givenIn (routine (now (file .entry)) at) (now (marking .entry)) (routine (now (file .entry)) at .value i)) ⌝ }
 {
     let row = view::value_row(file, at, i);
     let home = view::home_row(file, at, row.home as usize);
@@ -99,7 +99,7 @@ fn value_entry(file: &[u8], at: Starts, marking: &[u8], ty: &[u16; 1024], i: usi
 // The place in memory of start row `i`'s cell.
 fn value_cell(file: &[u8], at: Starts, t: &[u64; 2113], i: usize) -> usize
     requires { ⌜ WellRead (now file) at × Formed (routine (now file) at) × Homes (routine (now file) at .homes) (now t) × (i < half (now file) (at .values)) ⌝ }
-    ensures { λ r. ⌜ r ≡ valueCell (routine (now (file .entry)) at) (routine (now (file .entry)) at .value i) ⌝ }
+    ensures { λ r. ⌜ r ≡ startAddress (routine (now (file .entry)) at) (routine (now (file .entry)) at .value i) - 1 ⌝ }
 {
     let row = view::value_row(file, at, i);
     let start = table::start_of(t, row.home as u32) as usize;

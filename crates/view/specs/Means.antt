@@ -133,7 +133,7 @@ value-home {i = i} known l is =
     let names = value-in-range known i l in
     rw (ap (λ (x : ValueRow). x .home) is) (record { file = known; first = names .first; row = names .last })
 
-pub home-type : {s : List ℕ} {at : Starts} {g : ℕ} {row : HomeRow} → HomeAsked s at g → row ≡ homeRow s at g → TypeAsked s at (row .ty)
-home-type {s} {at} {g} asked is =
+pub home-type-asked : {s : List ℕ} {at : Starts} {g : ℕ} {row : HomeRow} → HomeAsked s at g → row ≡ homeRow s at g → TypeAsked s at (row .ty)
+home-type-asked {s} {at} {g} asked is =
     rw (ap (λ (x : HomeRow). x .ty) is)
     (record { file = asked .file; row = home-in-range s at (asked .file) g (asked .first) (asked .row) .0 .1 })

@@ -1,7 +1,7 @@
 -- `value_entry` meets its contract: the row names a home of the file, whose type's kind decides. Assumes nothing.
 use Rattle.runner.proofs.Given.{value-entry-is}
 use Rattle.filling.proofs.Words.{known, kinded}
-use Rattle.view.specs.Means.{value-home, home-type}
+use Rattle.view.specs.Means.{value-home, home-type-asked}
 use Rattle.view.specs.Rows.{value-asked}
 use borrow.Author.Needs.{needs}
 use Rattle.runner.proofs.value_entry.Statement.{statement}
@@ -17,7 +17,7 @@ home-row-requires : tie.Need-home-row-requires
 home-row-requires c κs = value-home (known (c .before .before .before .before .pre .0)) (c .before .before .before .before .pre .1) (c .before .value-row .ensures)
 
 kind-of-requires : tie.Need-kind-of-requires
-kind-of-requires c κs = kinded (c .before .before .before .before .before .pre .0) _ (home-type (value-home (known (c .before .before .before .before .before .pre .0)) (c .before .before .before .before .before .pre .1) (c .before .before .value-row .ensures)) (c .home-row .ensures) .row)
+kind-of-requires c κs = kinded (c .before .before .before .before .before .pre .0) _ (home-type-asked (value-home (known (c .before .before .before .before .before .pre .0)) (c .before .before .before .before .before .pre .1) (c .before .before .value-row .ensures)) (c .home-row .ensures) .row)
 
 given-entry-requires : tie.Need-given-entry-requires
 given-entry-requires c κs = search needs

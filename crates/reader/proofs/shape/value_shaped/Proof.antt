@@ -1,5 +1,5 @@
 -- `shape::value_shaped` meets its contract: the row's home and that home's type have rows, and the target there is the cell's type. Assumes nothing.
-use Rattle.view.specs.Means.{value-home, home-type}
+use Rattle.view.specs.Means.{value-home, home-type-asked}
 use Rattle.reader.proofs.Shapes.{value-shaped-is}
 use Rattle.view.specs.Rows.{value-asked}
 use borrow.Author.Needs.{needs}
@@ -19,7 +19,7 @@ cast-type-row : tie.Need-cast-type-row
 cast-type-row c = search needs
 
 type-row-requires : tie.Need-type-row-requires
-type-row-requires c κs = home-type (value-home (c .before .before .before .before .before .pre .0) (c .before .before .before .before .before .pre .1) (c .before .before .before .value-row .ensures)) (c .before .home-row .ensures)
+type-row-requires c κs = home-type-asked (value-home (c .before .before .before .before .before .pre .0) (c .before .before .before .before .before .pre .1) (c .before .before .before .value-row .ensures)) (c .before .home-row .ensures)
 
 returns : tie.Need-returns
 returns c = value-shaped-is (c .before .before .before .before .before .before .before .pre .0) (c .before .before .before .before .before .before .before .pre .1) (c .before .before .before .before .before .value-row .ensures) (c .before .before .before .home-row .ensures) (c .before .type-row .ensures)
