@@ -9,7 +9,9 @@ use lib.ListN.{getD}
 use lib.Dec.{eqb}
 use Rattle.rules.specs.Basic.{choose}
 use Rattle.rules.specs.Table.{Routine}
-use Rattle.rules.specs.Kinds.{Kind, int, SAFE, SEQ, DYNAMIC, kind, sameKind, deep, same, kindConverts, targetsMatter, converts, spreads}
+use Rattle.rules.specs.declared.Kind.{Kind}
+use Rattle.rules.specs.declared.Kind.the-variants.{int, SAFE, SEQ, DYNAMIC}
+use Rattle.rules.specs.Kinds.{kind, sameKind, deep, same, kindConverts, targetsMatter, converts, spreads}
 use Rattle.laws.specs.Same.{sameKind-eq, sameKind-refl, reflexive, same-depth}
 use Rattle.checker.specs.Tables.{kindBy, TypeTables, TwoTypes}
 

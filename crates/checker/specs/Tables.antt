@@ -6,7 +6,9 @@ use lib.ListN.{getD, length}
 use Rattle.rules.specs.Table.{Routine, exprOf, commandOf}
 use Rattle.rules.specs.Shape.{typeOf}
 use Rattle.laws.specs.Formed.{Formed}
-use Rattle.rules.specs.Kinds.{Kind, int, SAFE, SEQ, DYNAMIC, kind}
+use Rattle.rules.specs.declared.Kind.{Kind}
+use Rattle.rules.specs.declared.Kind.the-variants.{int, SAFE, SEQ, DYNAMIC}
+use Rattle.rules.specs.Kinds.{kind}
 
 -- A kind by its number in a table: 0 int, 1 SAFE, 2 SEQ, 3 DYNAMIC.
 abbrev pub kindBy : ℕ → Kind

@@ -8,9 +8,9 @@ use Rattle.rules.specs.declared.Value.the-variants.{Number, Pair}
 use Rattle.rules.specs.Table.{operatorOf}
 use Rattle.rules.specs.Ruled.{Ruled, gives, fails, stuck, onward}
 use Rattle.rules.specs.Operators.{applied}
-use Rattle.cells.specs.declared.Found.{Found}
-use Rattle.cells.specs.declared.Found.the-variants.{Is, Fails}
-use Rattle.cells.specs.Cells.{foundOf, asNumber, numberOf, plusOf, toIntIn, toPair, toSafeIn, reachIn}
+use Rattle.values.specs.declared.Found.{Found}
+use Rattle.values.specs.declared.Found.the-variants.{Is, Fails}
+use Rattle.values.specs.Values.{foundOf, asNumber, numberOf, plusOf, toIntIn, toPair, toSafeIn, reachIn}
 use Rattle.evaluate.specs.declared.Got.{Got}
 use Rattle.evaluate.specs.declared.Stop.{Stop}
 use Rattle.evaluate.specs.declared.Stop.the-variants.{Check}

@@ -15,7 +15,9 @@ use Rattle.rules.specs.declared.Value.{Value}
 use Rattle.rules.specs.declared.Value.the-variants.{Number, Pair}
 use Rattle.rules.specs.Table.{Operator, plus, minus, times, over, rest, equal, less, both, right, Expr, Home, Routine, literal, home, cast, null, sum, read, op}
 use Rattle.rules.specs.Shape.{homeAt, typeOf, exprShaped}
-use Rattle.rules.specs.Kinds.{Kind, int, SAFE, SEQ, DYNAMIC, kind}
+use Rattle.rules.specs.declared.Kind.{Kind}
+use Rattle.rules.specs.declared.Kind.the-variants.{int, SAFE, SEQ, DYNAMIC}
+use Rattle.rules.specs.Kinds.{kind}
 use Rattle.rules.specs.Steps.{Told}
 use Rattle.rules.specs.Memory.{State}
 use Rattle.rules.specs.Ruled.{Ruled, gives, fails, stuck, check1, check2, check3, check4}
@@ -27,7 +29,7 @@ use Rattle.laws.specs.Depth.{eval-row}
 use Rattle.laws.specs.Formed.{Fits, ref-type, ref-kind}
 use Rattle.laws.specs.Steps.{Answers as Told-is, value as is-value, stop as is-stop}
 use Rattle.laws.specs.Sound.{eval-ok}
-use Rattle.table.specs.Words.{homeOp, nullOp, castOp, readOp, operatorOp, opFor, aFor, homeField, bFor, ExprWord, Named, state}
+use Rattle.words.specs.Words.{homeOp, nullOp, castOp, readOp, operatorOp, opFor, aFor, homeField, bFor, ExprWord, Named, state}
 use Rattle.evaluate.proofs.Answer as answer
 use Rattle.evaluate.specs.declared.Got.{Got}
 use Rattle.evaluate.specs.declared.Stop.the-variants.{Fuel}

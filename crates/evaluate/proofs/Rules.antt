@@ -13,15 +13,17 @@ use Rattle.rules.specs.declared.Value.the-variants.{Number, Pair}
 use Rattle.rules.specs.Basic.{width, choose}
 use Rattle.rules.specs.Table.{Home, Routine, Operator, plus, minus, times, over, rest, equal, less, both, right, operatorOf}
 use Rattle.rules.specs.Shape.{homeAt}
-use Rattle.rules.specs.Kinds.{Kind, int, SAFE, SEQ, DYNAMIC, kind, isDynamic}
+use Rattle.rules.specs.declared.Kind.{Kind}
+use Rattle.rules.specs.declared.Kind.the-variants.{int, SAFE, SEQ, DYNAMIC}
+use Rattle.rules.specs.Kinds.{kind, isDynamic}
 use Rattle.rules.specs.Memory.{State, cell, held}
 use Rattle.rules.specs.Ruled.{Check, Ruled, gives, fails, stuck, onward, must, check2}
 use Rattle.rules.specs.Operators.{applied}
 use Rattle.rules.specs.Values.{convert, moved, operated, reachSafe, reach, fetched, load, kept}
 use Rattle.rules.specs.Valid.{In, Real, ValidAt, number, address, pair, wildPair, Holds, ValidState}
 use Rattle.rules.specs.Tests.{false-true}
-use Rattle.table.specs.Words.{accessOf, convertOf, keepOf, startIn, sizeIn, Homes, Named}
-use Rattle.cells.specs.Cells.{numberOf, plusOf, toIntIn, toPair, toSafeIn, notNull, reachIn, keptIn, asNumber}
+use Rattle.words.specs.Words.{accessOf, convertOf, keepOf, startIn, sizeIn, Homes, Named}
+use Rattle.values.specs.Values.{numberOf, plusOf, toIntIn, toPair, toSafeIn, notNull, reachIn, keptIn, asNumber}
 use Rattle.evaluate.specs.Rows.{cellIn, oneIn, twoIn, Inside}
 
 -- A rule that is not stuck.

@@ -13,10 +13,10 @@ use Rattle.rules.specs.Ruled.{checkNumber, Ruled, gives, fails, stuck, onward, 
 use Rattle.rules.specs.Operators.{applied}
 use Rattle.rules.specs.Run.{Stop as Stops, noFuel, failed, noRule, Answer as Answers, got, stopped, exprRow, eval}
 use Rattle.rules.specs.Valid.{ValidState}
-use Rattle.table.specs.Words.{Named, Tabled, state}
-use Rattle.cells.specs.declared.Found.{Found}
-use Rattle.cells.specs.declared.Found.the-variants.{Is, Fails}
-use Rattle.cells.specs.Cells.{numberOf, plusOf, toIntIn, toPair, toSafeIn, reachIn, asNumber}
+use Rattle.words.specs.Words.{Named, Tabled, state}
+use Rattle.values.specs.declared.Found.{Found}
+use Rattle.values.specs.declared.Found.the-variants.{Is, Fails}
+use Rattle.values.specs.Values.{numberOf, plusOf, toIntIn, toPair, toSafeIn, reachIn, asNumber}
 use Rattle.evaluate.specs.declared.Stop.{Stop}
 use Rattle.evaluate.specs.declared.Stop.the-variants.{Fuel, Check}
 use Rattle.evaluate.specs.declared.Answer.{Answer}

@@ -1,12 +1,12 @@
 // Expression rows, run from the table.
-use cells::Found;
+use values::Found;
 use rules::Value;
-use table::a_of;
-use table::high;
-use table::op_of;
+use words::a_of;
+use words::high;
+use words::op_of;
 ghost use mathlib.Core.Path.{_≡_};
 ghost use Prim.Native.Nat.{ℕ, _/_, _%_, _≤_, _<_};
-ghost use Rattle.table.specs.Words.{Named};
+ghost use Rattle.words.specs.Words.{Named};
 ghost use Rattle.evaluate.specs.Rows.{Asked, Operands, Inside, Ready, told, meant, entered, leafValue, says, numberIn, loadIn, loadIntIn, oneIn, twoIn};
 
 // A value, beside the fuel left.
@@ -64,7 +64,7 @@ fn load(memory: &[u64], row: u32, x: Found, left: u32) -> Answer
     ensures { λ r. ⌜ r ≡ loadIn (now (memory .entry)) row left x ⌝ }
 {
     match x {
-        Found::Is(a) => done(cells::decode(memory[(a - 1) as usize]), left),
+        Found::Is(a) => done(values::decode(memory[(a - 1) as usize]), left),
         Found::Fails(k) => check(k, row, left),
     }
 }
@@ -76,8 +76,8 @@ fn load_int(t: &[u64; 2113], memory: &[u64], row: u32, x: Found, left: u32) -> A
 {
     match x {
         Found::Is(a) => {
-            let v = cells::decode(memory[(a - 1) as usize]);
-            done(Value::Number(cells::to_int(t, v)), left)
+            let v = values::decode(memory[(a - 1) as usize]);
+            done(Value::Number(values::to_int(t, v)), left)
         }
         Found::Fails(k) => check(k, row, left),
     }
@@ -90,13 +90,13 @@ fn one(t: &[u64; 2113], memory: &[u64], op: u64, row: u32, x: Got) -> Answer
     let v = x.value;
     let left = x.left;
     match op {
-        2 => done(Value::Number(cells::to_int(t, v)), left),
-        3 => done(cells::to_pair(v), left),
-        4 => number(row, cells::to_safe(t, v), left),
-        5 => load(memory, row, cells::reach_safe(v), left),
-        6 => load(memory, row, cells::reach_seq(t, v), left),
-        7 => load(memory, row, cells::reach_dynamic(t, v), left),
-        _ => load_int(t, memory, row, cells::reach_dynamic(t, v), left),
+        2 => done(Value::Number(values::to_int(t, v)), left),
+        3 => done(values::to_pair(v), left),
+        4 => number(row, values::to_safe(t, v), left),
+        5 => load(memory, row, values::reach_safe(v), left),
+        6 => load(memory, row, values::reach_seq(t, v), left),
+        7 => load(memory, row, values::reach_dynamic(t, v), left),
+        _ => load_int(t, memory, row, values::reach_dynamic(t, v), left),
     }
 }
 
@@ -108,11 +108,11 @@ fn two(op: u64, row: u32, v: Value, y: Got) -> Answer
 {
     let k = y.value;
     let left = y.left;
-    let n = cells::number(k);
+    let n = values::number(k);
     if op == 9 {
-        return done(cells::plus(v, n), left);
+        return done(values::plus(v, n), left);
     }
-    number(row, cells::applied(op - 10, cells::number(v), n), left)
+    number(row, values::applied(op - 10, values::number(v), n), left)
 }
 
 // ---- rows

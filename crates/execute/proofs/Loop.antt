@@ -16,8 +16,8 @@ use Rattle.rules.specs.Valid.{ValidState}
 use Rattle.laws.specs.Promises.{leftAfter}
 use Rattle.laws.specs.Forget.{value, rule, entry, ended, turn-answer}
 use Rattle.laws.specs.Units.{leftOf, eval-spends, exec-spends}
-use Rattle.table.specs.Words.{firstFor, secondFor, state}
-use Rattle.cells.specs.Cells.{numberOf}
+use Rattle.words.specs.Words.{firstFor, secondFor, state}
+use Rattle.values.specs.Values.{numberOf}
 use Rattle.evaluate.proofs.Answer as answer
 use Rattle.evaluate.proofs.Rules.{Fine}
 use Rattle.evaluate.proofs.Rows.{command-place}

@@ -12,9 +12,10 @@ use types.Run.{OneOf}
 use Rattle.rules.specs.declared.Value.{Value}
 use Rattle.rules.specs.declared.Value.the-variants.{Number, Pair}
 use Rattle.rules.specs.Basic.{choose}
-use Rattle.rules.specs.Table.{Command, Home, Routine, skip, seq, store, ifElse, while}
+use Rattle.rules.specs.Table.{Command, Home, Routine, skip, then, store, ifElse, while}
 use Rattle.rules.specs.Shape.{typeOf}
-use Rattle.rules.specs.Kinds.{Kind, kind}
+use Rattle.rules.specs.declared.Kind.{Kind}
+use Rattle.rules.specs.Kinds.{kind}
 use Rattle.rules.specs.Steps.{Told}
 use Rattle.rules.specs.Memory.{State, put, encode}
 use Rattle.rules.specs.Ruled.{Ruled, gives, fails, stuck, checkNumber, Check as Checks, check1, check2, check3, check4}
@@ -23,17 +24,17 @@ use Rattle.rules.specs.Run.{noRule, failed, got, Ran as Runs, done, halted, ent
 use Rattle.rules.specs.Calls.{stateOf}
 use Rattle.rules.specs.Valid.{ValidState}
 use Rattle.laws.specs.Promises.{Ends, atStop}
-use Rattle.laws.specs.Forget.{value, rule, ended, enter-answer, store-answer, seq-answer, if-answer}
+use Rattle.laws.specs.Forget.{value, rule, ended, enter-answer, store-answer, then-answer, if-answer}
 use Rattle.laws.specs.Depth.{exec-row}
 use Rattle.laws.specs.Formed.{CommandFits}
 use Rattle.laws.specs.Steps.{steps-valid}
 use Rattle.laws.specs.Sound.{eval-ok, exec-ok}
-use Rattle.table.specs.Words.{commandOp, firstFor, secondFor, accessOf, keepOf, thirdFor, fourthFor, CommandWord, Named, state}
-use Rattle.cells.specs.declared.Found.{Found}
-use Rattle.cells.specs.declared.Found.the-variants as found
-use Rattle.cells.specs.declared.Entry.{Entry}
-use Rattle.cells.specs.declared.Entry.the-variants as entry
-use Rattle.cells.specs.Cells.{numberOf, reachIn, keptIn, foundOf, entryOf}
+use Rattle.words.specs.Words.{commandOp, firstFor, secondFor, accessOf, keepOf, thirdFor, fourthFor, CommandWord, Named, state}
+use Rattle.values.specs.declared.Found.{Found}
+use Rattle.values.specs.declared.Found.the-variants as found
+use Rattle.values.specs.declared.Entry.{Entry}
+use Rattle.values.specs.declared.Entry.the-variants as entry
+use Rattle.values.specs.Values.{numberOf, reachIn, keptIn, foundOf, entryOf}
 use Rattle.evaluate.proofs.Answer as answer
 use Rattle.evaluate.proofs.Answers.{found-gives}
 use Rattle.evaluate.proofs.Rules.{Fine, given, failed as fine-failed, valid-named, reach-is, reach-inside, kept-is}
@@ -53,19 +54,19 @@ use Rattle.execute.specs.Commands.{ranTold, stoppedOf, Commanded, meantR
 module _ (r : Routine) (m : List ℕ) (ex : State → ℕ → ℕ → Told Runs) (p : ℕ) (w : State) (f : ℕ) where
   skip-row : (c : ℕ) (x : Command) → CommandFits r c x → commandOp x ≡ 0 → commandRow r m ex p x w f .answer ≡ done w f
   skip-row c skip y h = refl
-  skip-row c (seq a b) y h = absurd (omega arith)
+  skip-row c (then a b) y h = absurd (omega arith)
   skip-row c (store a b) y h = absurd (omega arith)
   skip-row c (ifElse a b d) y h = absurd (omega arith)
   skip-row c (while a b) y h = absurd (omega arith)
   skip-row c Command.none y h = absurd y
 
-  seq-row : (x : Command) → commandOp x ≡ 1 → commandRow r m ex p x w f .answer ≡ ended (ex w (firstFor x) f .answer) λ w₁ f₁. ex w₁ (secondFor x) f₁ .answer
-  seq-row skip h = absurd (omega arith)
-  seq-row (seq a b) h = seq-answer r m ex p a b w f
-  seq-row (store a b) h = absurd (omega arith)
-  seq-row (ifElse a b d) h = absurd (omega arith)
-  seq-row (while a b) h = absurd (omega arith)
-  seq-row Command.none h = absurd (omega arith)
+  then-row : (x : Command) → commandOp x ≡ 1 → commandRow r m ex p x w f .answer ≡ ended (ex w (firstFor x) f .answer) λ w₁ f₁. ex w₁ (secondFor x) f₁ .answer
+  then-row skip h = absurd (omega arith)
+  then-row (then a b) h = then-answer r m ex p a b w f
+  then-row (store a b) h = absurd (omega arith)
+  then-row (ifElse a b d) h = absurd (omega arith)
+  then-row (while a b) h = absurd (omega arith)
+  then-row Command.none h = absurd (omega arith)
 
   store-row : (x : Command) → commandOp x ≡ 2 → commandRow r m ex p x w f .answer
       ≡ value (halted w) (eval r m w (firstFor x) f .answer) λ v f₁.
@@ -74,7 +75,7 @@ module _ (r : Routine) (m : List ℕ) (ex : State → ℕ → ℕ → Told Runs)
       rule (halted w) p f₂ (kept w (kind m (typeOf r (firstFor x))) (kind m (r .target (typeOf r (firstFor x)))) u) λ y.
       done (put w c y) f₂
   store-row skip h = absurd (omega arith)
-  store-row (seq a b) h = absurd (omega arith)
+  store-row (then a b) h = absurd (omega arith)
   store-row (store a b) h = store-answer r m ex p a b w f
   store-row (ifElse a b d) h = absurd (omega arith)
   store-row (while a b) h = absurd (omega arith)
@@ -85,7 +86,7 @@ module _ (r : Routine) (m : List ℕ) (ex : State → ℕ → ℕ → Told Runs)
       rule (halted w) p f₁ (truth v) λ t.
       choose t (λ _. ex w (secondFor x) f₁ .answer) (λ _. ex w (thirdFor r m x) f₁ .answer)
   if-row skip h = absurd (omega arith)
-  if-row (seq a b) h = absurd (omega arith)
+  if-row (then a b) h = absurd (omega arith)
   if-row (store a b) h = absurd (omega arith)
   if-row (ifElse a b d) h = if-answer r m ex p a b d w f
   if-row (while a b) h = absurd (omega arith)
@@ -94,7 +95,7 @@ module _ (r : Routine) (m : List ℕ) (ex : State → ℕ → ℕ → Told Runs)
   pub while-row : (x : Command) → commandOp x ≡ 4 → commandRow r m ex p x w f .answer
       ≡ turns (suc f) p (λ w₁ f₁. eval r m w₁ (firstFor x) f₁) (λ w₁ f₁. ex w₁ (secondFor x) f₁) w f .answer
   while-row skip h = absurd (omega arith)
-  while-row (seq a b) h = absurd (omega arith)
+  while-row (then a b) h = absurd (omega arith)
   while-row (store a b) h = absurd (omega arith)
   while-row (ifElse a b d) h = absurd (omega arith)
   while-row (while a b) h = refl
@@ -103,17 +104,17 @@ module _ (r : Routine) (m : List ℕ) (ex : State → ℕ → ℕ → Told Runs)
 -- ---- what a row names is in range
 
 module _ (r : Routine) (m : List ℕ) (c : ℕ) where
-  seq-early : (x : Command) → CommandFits r c x → commandOp x ≡ 1 → (firstFor x < c) × (secondFor x < c)
-  seq-early skip y h = absurd (omega arith)
-  seq-early (seq a b) y h = y
-  seq-early (store a b) y h = absurd (omega arith)
-  seq-early (ifElse a b d) y h = absurd (omega arith)
-  seq-early (while a b) y h = absurd (omega arith)
-  seq-early Command.none y h = absurd y
+  then-early : (x : Command) → CommandFits r c x → commandOp x ≡ 1 → (firstFor x < c) × (secondFor x < c)
+  then-early skip y h = absurd (omega arith)
+  then-early (then a b) y h = y
+  then-early (store a b) y h = absurd (omega arith)
+  then-early (ifElse a b d) y h = absurd (omega arith)
+  then-early (while a b) y h = absurd (omega arith)
+  then-early Command.none y h = absurd y
 
   store-early : (x : Command) → CommandFits r c x → commandOp x ≡ 2 → (firstFor x < r .exprs) × (secondFor x < r .exprs)
   store-early skip y h = absurd (omega arith)
-  store-early (seq a b) y h = absurd (omega arith)
+  store-early (then a b) y h = absurd (omega arith)
   store-early (store a b) y h = y
   store-early (ifElse a b d) y h = absurd (omega arith)
   store-early (while a b) y h = absurd (omega arith)
@@ -121,7 +122,7 @@ module _ (r : Routine) (m : List ℕ) (c : ℕ) where
 
   if-early : (x : Command) → CommandFits r c x → commandOp x ≡ 3 → (firstFor x < r .exprs) × (secondFor x < c) × (thirdFor r m x < c)
   if-early skip y h = absurd (omega arith)
-  if-early (seq a b) y h = absurd (omega arith)
+  if-early (then a b) y h = absurd (omega arith)
   if-early (store a b) y h = absurd (omega arith)
   if-early (ifElse a b d) y h = y
   if-early (while a b) y h = absurd (omega arith)
@@ -129,7 +130,7 @@ module _ (r : Routine) (m : List ℕ) (c : ℕ) where
 
   pub while-early : (x : Command) → CommandFits r c x → commandOp x ≡ 4 → (firstFor x < r .exprs) × (secondFor x < c)
   while-early skip y h = absurd (omega arith)
-  while-early (seq a b) y h = absurd (omega arith)
+  while-early (then a b) y h = absurd (omega arith)
   while-early (store a b) y h = absurd (omega arith)
   while-early (ifElse a b d) y h = absurd (omega arith)
   while-early (while a b) y h = y
@@ -137,7 +138,7 @@ module _ (r : Routine) (m : List ℕ) (c : ℕ) where
 
   store-third : (x : Command) → commandOp x ≡ 2 → thirdFor r m x ≡ accessOf (kind m (typeOf r (firstFor x)))
   store-third skip h = absurd (omega arith)
-  store-third (seq a b) h = absurd (omega arith)
+  store-third (then a b) h = absurd (omega arith)
   store-third (store a b) h = refl
   store-third (ifElse a b d) h = absurd (omega arith)
   store-third (while a b) h = absurd (omega arith)
@@ -145,7 +146,7 @@ module _ (r : Routine) (m : List ℕ) (c : ℕ) where
 
   store-fourth : (x : Command) → commandOp x ≡ 2 → fourthFor r m x ≡ keepOf (kind m (typeOf r (firstFor x))) (kind m (r .target (typeOf r (firstFor x))))
   store-fourth skip h = absurd (omega arith)
-  store-fourth (seq a b) h = absurd (omega arith)
+  store-fourth (then a b) h = absurd (omega arith)
   store-fourth (store a b) h = refl
   store-fourth (ifElse a b d) h = absurd (omega arith)
   store-fourth (while a b) h = absurd (omega arith)
@@ -154,7 +155,7 @@ module _ (r : Routine) (m : List ℕ) (c : ℕ) where
 -- The operation that no arm names.
 else-while : (x : Command) → (commandOp x ≡ 0 → ⊥) → (commandOp x ≡ 1 → ⊥) → (commandOp x ≡ 2 → ⊥) → (commandOp x ≡ 3 → ⊥) → commandOp x ≡ 4
 else-while skip a b c d = absurd (a refl)
-else-while (seq i j) a b c d = absurd (b refl)
+else-while (then i j) a b c d = absurd (b refl)
 else-while (store i j) a b c d = absurd (c refl)
 else-while (ifElse i j k) a b c d = absurd (d refl)
 else-while (while i j) a b c d = refl
@@ -437,18 +438,18 @@ module _ {t memory : List ℕ} {row : ℕ} (g : Commanded t memory row) where
   -- ---- one command after another
 
   module _ {w : ℕ} (y : Entered t memory row w 1) (f a : ℕ) (i : a ≡ w / 256 % 65536) where
-    seq-names : (firstFor X < row) × (secondFor X < row)
-    seq-names = seq-early R M row X fits (is-op y)
+    then-names : (firstFor X < row) × (secondFor X < row)
+    then-names = then-early R M row X fits (is-op y)
 
     pub first-before : a < row
-    first-before = rw (← is-first y a i) (seq-names .0)
+    first-before = rw (← is-first y a i) (then-names .0)
 
     abbrev pub first-asked : Commanded t memory a
     first-asked = command g memory (g .valid) a first-before
 
     at-first : enteredRun g f ≡ ended (exec R M W a f .answer) λ w₁ f₁. exec R M w₁ (secondFor X) f₁ .answer
     at-first =
-        seq-row R M (λ w a f₁. exec R M w a f₁) P W f X (is-op y)
+        then-row R M (λ w a f₁. exec R M w a f₁) P W f X (is-op y)
         ∙ ap (λ k. ended (exec R M W k f .answer) λ w₁ f₁. exec R M w₁ (secondFor X) f₁ .answer) (is-first y a i)
 
     module _ (x : Ran) (l : List ℕ) (right : Carried t memory a f x l) where
@@ -461,13 +462,13 @@ module _ {t memory : List ℕ} {row : ℕ} (g : Commanded t memory row) where
         first-gave = sym (right first-asked) ∙ ap (λ s. ranTold R H s l) d
 
         pub second-before : b < row
-        second-before = rw (← is-second y b j) (seq-names .1)
+        second-before = rw (← is-second y b j) (then-names .1)
 
         abbrev pub second-asked : Commanded t l b
         second-asked = command g l (valid-after first-asked f l f₁ first-gave) b second-before
 
-        pub a-seq : (r : Ran) (l₂ : List ℕ) → Carried t l b f₁ r l₂ → ranTold (g .table .routine) (g .table .homes) r l₂ ≡ enteredRun g f
-        a-seq r l₂ p = p second-asked ∙ rw (at-first, first-gave, is-second y b j)
+        pub a-then : (r : Ran) (l₂ : List ℕ) → Carried t l b f₁ r l₂ → ranTold (g .table .routine) (g .table .homes) r l₂ ≡ enteredRun g f
+        a-then r l₂ p = p second-asked ∙ rw (at-first, first-gave, is-second y b j)
 
   -- ---- a condition
 

@@ -11,7 +11,7 @@ use Rattle.rules.specs.Values.{kept}
 use Rattle.rules.specs.Run.{noFuel, Ran as Runs, done, halted, eval, commandRow, exec}
 use Rattle.rules.specs.Valid.{ValidState}
 use Rattle.laws.specs.Forget.{value, rule}
-use Rattle.table.specs.Words.{firstFor, secondFor, Tabled, state}
+use Rattle.words.specs.Words.{firstFor, secondFor, Tabled, state}
 use Rattle.evaluate.specs.declared.Stop.the-variants as stop
 use Rattle.evaluate.specs.declared.Answer.{Answer}
 use Rattle.evaluate.specs.declared.Answer.the-variants as answer

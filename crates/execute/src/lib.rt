@@ -1,14 +1,14 @@
 // Command rows, run from the table.
-use cells::Entry;
-use cells::Found;
+use values::Entry;
+use values::Found;
 use evaluate::Answer;
 use evaluate::Stop;
 use evaluate::eval;
-use table::a_of;
-use table::b_of;
-use table::c_of;
-use table::d_of;
-use table::op_of;
+use words::a_of;
+use words::b_of;
+use words::c_of;
+use words::d_of;
+use words::op_of;
 ghost use mathlib.Core.Path.{_≡_};
 ghost use Rattle.execute.specs.Commands.{Commanded, Entered, Storing, ranTold, meantRun, enteredRun, storingRun, stoppedOf};
 
@@ -56,7 +56,7 @@ fn put(t: &[u64; 2113], memory: &mut [u64], row: u32, w: u64, a: u32, left: u32)
     };
     let v = y.value;
     let rest = y.left;
-    let kept = cells::kept(t, d_of(w), v);
+    let kept = values::kept(t, d_of(w), v);
     match kept {
         Entry::Fails(k) => {
             return Ran::Check(k, 1024 + row, rest);
@@ -78,7 +78,7 @@ fn store(t: &[u64; 2113], memory: &mut [u64], row: u32, w: u64, left: u32) -> Ra
     };
     let v = x.value;
     let rest = x.left;
-    let reached = cells::reach(t, c_of(w), v);
+    let reached = values::reach(t, c_of(w), v);
     match reached {
         Found::Fails(k) => {
             return Ran::Check(k, 1024 + row, rest);
@@ -91,7 +91,7 @@ fn store(t: &[u64; 2113], memory: &mut [u64], row: u32, w: u64, left: u32) -> Ra
 
 // ---- rows that hold commands
 
-fn seq(t: &[u64; 2113], memory: &mut [u64], row: u32, w: u64, left: u32) -> Ran
+fn then(t: &[u64; 2113], memory: &mut [u64], row: u32, w: u64, left: u32) -> Ran
     requires { ⌜ Entered (now t) (now memory) row w 1 ⌝ }
     ensures { λ r. ⌜ ((g : Commanded (now (t .entry)) (now (memory .entry)) row) → ranTold (g .table .routine) (g .table .homes) r (now (memory .exit)) ≡ enteredRun g left) ⌝ }
 {
@@ -111,7 +111,7 @@ fn choose(t: &[u64; 2113], memory: &mut [u64], row: u32, w: u64, left: u32) -> R
         return stopped(test);
     };
     let v = x.value;
-    if cells::number(v) == 0 {
+    if values::number(v) == 0 {
         exec(t, memory, c_of(w), x.left)
     } else {
         exec(t, memory, b_of(w), x.left)
@@ -131,7 +131,7 @@ fn repeat(t: &[u64; 2113], memory: &mut [u64], row: u32, w: u64, fuel: u32) -> R
         };
         let v = x.value;
         let rest = x.left;
-        if cells::number(v) == 0 {
+        if values::number(v) == 0 {
             return Ran::Done(rest);
         }
         let body = exec(t, memory, b_of(w), rest);
@@ -158,7 +158,7 @@ pub fn exec(t: &[u64; 2113], memory: &mut [u64], row: u32, fuel: u32) -> Ran
     let op = op_of(w);
     match op {
         0 => Ran::Done(left),
-        1 => seq(t, memory, row, w, left),
+        1 => then(t, memory, row, w, left),
         2 => store(t, memory, row, w, left),
         3 => choose(t, memory, row, w, left),
         _ => repeat(t, memory, row, w, left),

@@ -5,8 +5,9 @@ use native.Mathlib.Numerals.{add-one, sub-one}
 use native.Mathlib.Omega.{arith}
 use mathlib.Core.List.{List}
 use lib.ListN.{getD}
-use Rattle.rules.specs.Kinds.{Kind, kindOf, kind}
-use Rattle.table.specs.Words.{homeOp, nullOp, castOp, readOp, accessOf, keepOf, startIn}
+use Rattle.rules.specs.declared.Kind.{Kind}
+use Rattle.rules.specs.Kinds.{kindOf, kind}
+use Rattle.words.specs.Words.{homeOp, nullOp, castOp, readOp, accessOf, keepOf, startIn}
 use Rattle.filling.specs.Filling.{kindAt, homeFieldIn}
 
 -- ---- a type's kind

@@ -11,7 +11,7 @@ use Rattle.rules.specs.declared.Starts.{Starts}
 use Rattle.rules.specs.Basic.{half}
 use Rattle.rules.specs.Table.{Home, layout, routine}
 use Rattle.rules.specs.Shape.{homeAt, noHome}
-use Rattle.table.specs.Words.{ExprWord, CommandWord, startIn, sizeIn}
+use Rattle.words.specs.Words.{ExprWord, CommandWord, startIn, sizeIn}
 use Rattle.view.specs.declared.HomeRow.{HomeRow}
 use Rattle.view.specs.Rows.{homeRow}
 use Rattle.filling.specs.Filling.{Blank, HomesDone, ExprsDone, CommandsDone}

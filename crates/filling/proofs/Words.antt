@@ -13,11 +13,13 @@ use Rattle.rules.specs.Basic.{half}
 use Rattle.rules.specs.Table.{Expr, routine, operatorOf, exprOf, commandOf, op}
 use Rattle.rules.specs.Reading.{exprGood, commandGood}
 use Rattle.rules.specs.Shape.{homeAt, typeOf}
-use Rattle.rules.specs.Kinds.{Kind, int, SAFE, SEQ, DYNAMIC, kind, Acceptable}
+use Rattle.rules.specs.declared.Kind.{Kind}
+use Rattle.rules.specs.declared.Kind.the-variants.{int, SAFE, SEQ, DYNAMIC}
+use Rattle.rules.specs.Kinds.{kind, Acceptable}
 use Rattle.rules.specs.Tests.{parts-true, in-range, false-true}
 use Rattle.laws.specs.Formed.{Formed, type-le}
 use Rattle.laws.specs.Read.{judged-fine, formed-fine}
-use Rattle.table.specs.Words.{Packed, PackedCommand, homeOp, homeField, nullOp, castOp, readOp, operatorOp, accessOf, keepOf, ExprWord, CommandWord, Homes}
+use Rattle.words.specs.Words.{Packed, PackedCommand, homeOp, homeField, nullOp, castOp, readOp, operatorOp, accessOf, keepOf, ExprWord, CommandWord, Homes}
 use Rattle.laws.specs.WellRead.{WellRead}
 use Rattle.laws.specs.Known.{formed-known}
 use Rattle.view.specs.Means.{expr-means, command-means, home-has, home-in-range, expr-in-range, command-in-range}

@@ -1,15 +1,15 @@
 // The filling of the table: the word of each row of a file under a marking, and of each home.
 use rules::Starts;
-use table::command_word;
-use table::start_of;
-use table::word;
+use words::command_word;
+use words::start_of;
+use words::word;
 ghost use mathlib.Core.Path.{_≡_};
 ghost use Prim.Native.Nat.{ℕ, _+_, _*_, _≤_, _<_};
 ghost use lib.ListN.{length, getD};
 ghost use Rattle.rules.specs.Basic.{half};
 ghost use Rattle.rules.specs.Kinds.{kind};
 ghost use Rattle.rules.specs.Table.{routine};
-ghost use Rattle.table.specs.Words.{Packed, PackedCommand, homeOp, nullOp, castOp, readOp, accessOf, keepOf, ExprWord, CommandWord, Homes};
+ghost use Rattle.words.specs.Words.{Packed, PackedCommand, homeOp, nullOp, castOp, readOp, accessOf, keepOf, ExprWord, CommandWord, Homes};
 ghost use Rattle.view.specs.Rows.{typeRow, homeRow, HomeAsked};
 ghost use Rattle.filling.specs.Filling.{kindAt, homeFieldIn, Kinded, Accepted, HomeReady, ReferenceReady, ExprReady, CommandReady, Blank, HomesDone, ExprsDone, CommandsDone};
 

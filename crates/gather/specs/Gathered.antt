@@ -5,7 +5,7 @@ use mathlib.Core.Bool.{true}
 use Prim.Native.Nat.{ℕ, zero, suc, _≤_, _<_}
 use mathlib.Core.List.{List}
 use lib.ListN.{length}
-use Rattle.rules.specs.Table.{Expr, Command, Routine, literal, home, cast, null, sum, read, op, skip, seq, store, ifElse, while}
+use Rattle.rules.specs.Table.{Expr, Command, Routine, literal, home, cast, null, sum, read, op, skip, then, store, ifElse, while}
 use Rattle.rules.specs.Shape.{typeOf}
 use Rattle.rules.specs.Kinds.{converts, Acceptable}
 use Rattle.laws.specs.Convert.{byteOf}
@@ -37,7 +37,7 @@ ExprListed r F G m₀ Expr.none = Unit {0}
 
 abbrev pub CommandListed : Routine → List ℕ → List ℕ → List ℕ → Command → Type 0
 CommandListed r F G m₀ skip = Unit {0}
-CommandListed r F G m₀ (seq a b) = Unit {0}
+CommandListed r F G m₀ (then a b) = Unit {0}
 CommandListed r F G m₀ (store a b) = Listed F G m₀ (typeOf r b) (r .target (typeOf r a))
 CommandListed r F G m₀ (ifElse a b c) = Unit {0}
 CommandListed r F G m₀ (while a b) = Unit {0}

@@ -7,7 +7,7 @@ use native.Mathlib.Decide.{ℕ-discrete}
 use native.Mathlib.Omega.{arith}
 use mathlib.Core.List.{List}
 use lib.ListN.{length, getD, replicate, length-replicate, take}
-use Rattle.rules.specs.Table.{Expr, Command, Routine, literal, home, cast, null, sum, read, op, skip, seq, store, ifElse, while}
+use Rattle.rules.specs.Table.{Expr, Command, Routine, literal, home, cast, null, sum, read, op, skip, then, store, ifElse, while}
 use Rattle.rules.specs.Shape.{typeOf}
 use Rattle.rules.specs.Kinds.{kindOf, kind, notSafe, converts, Acceptable}
 use Rattle.rules.specs.Tests.{false-true}
@@ -87,7 +87,7 @@ expr-kept r P Q P′ Q′ g k Expr.none h = tt
 command-kept : (r : Routine) (P Q m P′ Q′ m′ : List ℕ) → ((a b : ℕ) → Listed P Q m a b → Listed P′ Q′ m′ a b) → (x : Command)
     → CommandListed r P Q m x → CommandListed r P′ Q′ m′ x
 command-kept r P Q m P′ Q′ m′ k skip h = tt
-command-kept r P Q m P′ Q′ m′ k (seq a b) h = tt
+command-kept r P Q m P′ Q′ m′ k (then a b) h = tt
 command-kept r P Q m P′ Q′ m′ k (store a b) h = k (typeOf r b) (r .target (typeOf r a)) h
 command-kept r P Q m P′ Q′ m′ k (ifElse a b c) h = tt
 command-kept r P Q m P′ Q′ m′ k (while a b) h = tt

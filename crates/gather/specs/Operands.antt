@@ -8,7 +8,7 @@ use lib.ListN.{getD}
 use lib.Dec.{ltb}
 use Rattle.rules.specs.declared.Starts.{Starts}
 use Rattle.rules.specs.Basic.{half}
-use Rattle.rules.specs.Table.{Expr, Command, Operator, Routine, literal, home, cast, null, sum, read, op, skip, seq, store, ifElse, while, operatorOf, exprOf, commandOf, routine}
+use Rattle.rules.specs.Table.{Expr, Command, Operator, Routine, literal, home, cast, null, sum, read, op, skip, then, store, ifElse, while, operatorOf, exprOf, commandOf, routine}
 use Rattle.rules.specs.Shape.{typeOf, exprShaped, commandShaped, isRef}
 use Rattle.rules.specs.Tests.{by-test, parts-true}
 use Rattle.laws.specs.Values.{target-le}
@@ -49,7 +49,7 @@ pub data Quiet : Expr → Type 0 where
 -- All but stores.
 pub data QuietCommand : Command → Type 0 where
   quietSkip : QuietCommand skip
-  quietSeq : {a b : ℕ} → QuietCommand (seq a b)
+  quietSeq : {a b : ℕ} → QuietCommand (then a b)
   quietIf : {a b c : ℕ} → QuietCommand (ifElse a b c)
   quietWhile : {a b : ℕ} → QuietCommand (while a b)
   quietNothing : QuietCommand Command.none

@@ -8,9 +8,10 @@ use native.Mathlib.Omega.{arith}
 use mathlib.Core.List.{List}
 use lib.ListN.{getD, getD-replicate}
 use Rattle.rules.specs.Basic.{choose}
-use Rattle.rules.specs.Table.{Expr, Command, Routine, literal, home, cast, null, sum, read, op, skip, seq, store, ifElse, while}
+use Rattle.rules.specs.Table.{Expr, Command, Routine, literal, home, cast, null, sum, read, op, skip, then, store, ifElse, while}
 use Rattle.rules.specs.Shape.{typeOf}
-use Rattle.rules.specs.Kinds.{int, kindOf, kind, sameKind, deep, same, sameBelow, converts, spreads, notSafe, exprKind, commandKind, Acceptable}
+use Rattle.rules.specs.declared.Kind.the-variants.{int}
+use Rattle.rules.specs.Kinds.{kindOf, kind, sameKind, deep, same, sameBelow, converts, spreads, notSafe, exprKind, commandKind, Acceptable}
 use Rattle.rules.specs.Least.{Least}
 use Rattle.laws.specs.Convert.{Conv, conv-of, of-conv, Spread, byteOf, any-to-int, int-from}
 use Rattle.laws.specs.Values.{target-le}
@@ -136,7 +137,7 @@ module _ {r : Routine} (f : Formed r) {T F G m₀ : List ℕ} (g : Gathered r T 
 
     command-kind : (x : Command) → CommandListed r F G m₀ x → commandKind r m x ≡ true
     command-kind skip h = refl
-    command-kind (seq a b) h = refl
+    command-kind (then a b) h = refl
     command-kind (store a b) h = converted (typeOf r b) (r .target (typeOf r a)) h
     command-kind (ifElse a b c) h = refl
     command-kind (while a b) h = refl

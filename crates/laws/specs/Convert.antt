@@ -8,7 +8,8 @@ use mathlib.Core.List.{List}
 use lib.ListN.{getD}
 use Rattle.rules.specs.Basic.{choose}
 use Rattle.rules.specs.Table.{Routine}
-use Rattle.rules.specs.Kinds.{int, kindOf, kindConverts, targetsMatter, same, converts}
+use Rattle.rules.specs.declared.Kind.the-variants.{int}
+use Rattle.rules.specs.Kinds.{kindOf, kindConverts, targetsMatter, same, converts}
 use Rattle.rules.specs.Tests.{false-true}
 
 -- The byte of type t; int has 0.

@@ -9,7 +9,9 @@ use mathlib.Core.List.{List, [], _∷_, _++_}
 use lib.ListN.{getD}
 use borrow.Author.Tests.{eqb-true}
 use Rattle.rules.specs.Table.{Routine}
-use Rattle.rules.specs.Kinds.{Kind, int, SAFE, SEQ, DYNAMIC, kindOf, sameKind, deep, sameBelow, same, converts}
+use Rattle.rules.specs.declared.Kind.{Kind}
+use Rattle.rules.specs.declared.Kind.the-variants.{int, SAFE, SEQ, DYNAMIC}
+use Rattle.rules.specs.Kinds.{kindOf, sameKind, deep, sameBelow, same, converts}
 use Rattle.rules.specs.Tests.{false-true, parts-true, both-true, by-test}
 use Rattle.laws.specs.Same.{sameKind-refl, sameKind-eq}
 use Rattle.laws.specs.Values.{Falls}

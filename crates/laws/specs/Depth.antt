@@ -6,7 +6,7 @@ use native.Mathlib.Omega.{arith}
 use mathlib.Core.List.{List}
 use Rattle.rules.specs.declared.Value.{Value}
 use Rattle.rules.specs.Steps.{Told}
-use Rattle.rules.specs.Table.{Expr, Command, Routine, literal, home, cast, null, sum, read, op, skip, seq, store, ifElse, while}
+use Rattle.rules.specs.Table.{Expr, Command, Routine, literal, home, cast, null, sum, read, op, skip, then, store, ifElse, while}
 use Rattle.rules.specs.Memory.{State}
 use Rattle.rules.specs.Run.{Stop, Answer, stopped, Ran, halted, andThen, enter, afterwards, turns, exprRow, evalBelow, eval, commandRow, execBelow, exec}
 use Rattle.laws.specs.Formed.{Fits, CommandFits, Formed}
@@ -35,7 +35,7 @@ module _ (r : Routine) (m : List ℕ) where
   command-same : {c : ℕ} (p : ℕ) {ex ex′ : State → ℕ → ℕ → Told Ran} → ((w : State) (a f : ℕ) → a < c → ex w a f ≡ ex′ w a f)
       → (x : Command) (w : State) (f : ℕ) → CommandFits r c x → commandRow r m ex p x w f ≡ commandRow r m ex′ p x w f
   command-same p h skip w f t = refl
-  command-same p h (seq a b) w f t = on-same (h w a f (t .0)) (λ w₁ f₁. h w₁ b f₁ (t .1))
+  command-same p h (then a b) w f t = on-same (h w a f (t .0)) (λ w₁ f₁. h w₁ b f₁ (t .1))
   command-same p h (store a b) w f t = refl
   command-same p {ex} {ex′} h (ifElse a b c) w f t = then-same (halted w) refl (λ v f₁. rw (h w b f₁ (t .1), h w c f₁ (t .2)))
   command-same p {ex} {ex′} h (while a b) w f t =

@@ -1,8 +1,9 @@
 -- All DYNAMIC is acceptable for every well-formed routine.
 use mathlib.Core.Bool.{true}
-use Rattle.rules.specs.Table.{Expr, Command, Routine, literal, home, cast, null, sum, read, op, skip, seq, store, ifElse, while}
+use Rattle.rules.specs.Table.{Expr, Command, Routine, literal, home, cast, null, sum, read, op, skip, then, store, ifElse, while}
 use Rattle.rules.specs.Shape.{typeOf, exprShaped, commandShaped, isRef}
-use Rattle.rules.specs.Kinds.{Acceptable, DYNAMIC, kind, spreads, notSafe, converts, typeKind, exprKind, commandKind}
+use Rattle.rules.specs.declared.Kind.the-variants.{DYNAMIC}
+use Rattle.rules.specs.Kinds.{Acceptable, kind, spreads, notSafe, converts, typeKind, exprKind, commandKind}
 use mathlib.Core.Path.{_≡_, refl}
 use Prim.Native.Nat.{ℕ, zero, suc, _≤_, _<_}
 use native.Mathlib.Nat.{not-suc-le-zero}
@@ -50,7 +51,7 @@ module _ {r : Routine} (formed : Formed r) where
 
   command-kind : (c : ℕ) (x : Command) → CommandFits r c x → commandShaped r x ≡ true → commandKind r wild x ≡ true
   command-kind c skip y s = refl
-  command-kind c (seq a b) y s = refl
+  command-kind c (then a b) y s = refl
   command-kind c (store a b) y s =
       converts-all (typeOf r b) (r .target (typeOf r a)) (type-le formed b (y .1)) (target-le (formed .falls) (typeOf r a) (ref-type _ s) (type-le formed a (y .0)))
   command-kind c (ifElse a b d) y s = refl

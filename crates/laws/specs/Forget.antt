@@ -5,7 +5,7 @@ use Rattle.rules.specs.declared.Value.{Value}
 use Rattle.rules.specs.Run.{Stop, noFuel, failed, noRule, Answer, got, stopped, Ran, done, halted, andThen, ruled, enter, afterwards, turns, answered, exprRow, eval, commandRow}
 use Rattle.rules.specs.Basic.{choose}
 use Rattle.rules.specs.Steps.{Told}
-use Rattle.rules.specs.Table.{Routine, cast, sum, seq, store, ifElse}
+use Rattle.rules.specs.Table.{Routine, cast, sum, then, store, ifElse}
 use Rattle.rules.specs.Shape.{typeOf}
 use Rattle.rules.specs.Kinds.{kind}
 use Rattle.rules.specs.Memory.{State, put}
@@ -35,9 +35,9 @@ ended (done w f) k = k w f
 ended (halted w s) k = halted w s
 
 module _ {X : Type 0} (stop : Stop → X) where
-  pub then-answer : (x : Told Answer) (k : Value → ℕ → Told X) → andThen stop x k .answer ≡ value stop (x .answer) (λ v f. k v f .answer)
+  pub value-answer : (x : Told Answer) (k : Value → ℕ → Told X) → andThen stop x k .answer ≡ value stop (x .answer) (λ v f. k v f .answer)
   unfolding andThen
-  then-answer x k = elim (x .answer) as (λ a. Rattle.rules.specs.Run.onValue stop a k .answer ≡ value stop a (λ v f. k v f .answer)) [ got v f ↦ refl | stopped s ↦ refl ]
+  value-answer x k = elim (x .answer) as (λ a. Rattle.rules.specs.Run.onValue stop a k .answer ≡ value stop a (λ v f. k v f .answer)) [ got v f ↦ refl | stopped s ↦ refl ]
 
   pub rule-answer : {Y : Type 0} (p f : ℕ) (u : Ruled Y) (k : Y → Told X) → ruled stop p f u k .answer ≡ rule stop p f u (λ y. k y .answer)
   unfolding ruled
@@ -59,7 +59,7 @@ choose-answer true x y = refl
 choose-answer false x y = refl
 
 -- All of them, for `simp`.
-pub ruleset forget = (then-answer, rule-answer, enter-answer, on-answer, choose-answer)
+pub ruleset forget = (value-answer, rule-answer, enter-answer, on-answer, choose-answer)
 
 -- ---- row by row: the equations that code goes by
 
@@ -81,9 +81,9 @@ module _ (r : Routine) (m : List ℕ) where
       done (put w c y) f₂
   store-answer ex p a b w f = simp forget
 
-  pub seq-answer : (ex : State → ℕ → ℕ → Told Ran) (p a b : ℕ) (w : State) (f : ℕ)
-      → commandRow r m ex p (seq a b) w f .answer ≡ ended (ex w a f .answer) λ w₁ f₁. ex w₁ b f₁ .answer
-  seq-answer ex p a b w f = simp forget
+  pub then-answer : (ex : State → ℕ → ℕ → Told Ran) (p a b : ℕ) (w : State) (f : ℕ)
+      → commandRow r m ex p (then a b) w f .answer ≡ ended (ex w a f .answer) λ w₁ f₁. ex w₁ b f₁ .answer
+  then-answer ex p a b w f = simp forget
 
   pub if-answer : (ex : State → ℕ → ℕ → Told Ran) (p a b c : ℕ) (w : State) (f : ℕ) → commandRow r m ex p (ifElse a b c) w f .answer
       ≡ value (halted w) (eval r m w a f .answer) λ v f₁.

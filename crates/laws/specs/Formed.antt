@@ -1,9 +1,10 @@
 -- What refusals 1 to 6 see to, row by row, and the type of a row.
 use mathlib.Core.Bool.{true}
 use Rattle.rules.specs.Basic.{width}
-use Rattle.rules.specs.Table.{Home, total, Expr, Command, StartRow, Routine, literal, home, cast, null, sum, read, op, skip, seq, store, ifElse, while}
+use Rattle.rules.specs.Table.{Home, total, Expr, Command, StartRow, Routine, literal, home, cast, null, sum, read, op, skip, then, store, ifElse, while}
 use Rattle.rules.specs.Shape.{homeAt, rowType, typeOf, typeBelow, exprShaped, commandShaped, valueShaped, isInt, isRef}
-use Rattle.rules.specs.Kinds.{int, kindOf, kind}
+use Rattle.rules.specs.declared.Kind.the-variants.{int}
+use Rattle.rules.specs.Kinds.{kindOf, kind}
 use Rattle.rules.specs.Valid.{Real}
 use mathlib.Core.Path.{_≡_, refl, ap}
 use Prim.Native.Nat.{ℕ, zero, suc, _+_, _≤_, _<_, zero-le}
@@ -27,7 +28,7 @@ Fits r e Expr.none = ⊥
 
 abbrev pub CommandFits : Routine → ℕ → Command → Type 0
 CommandFits r c skip = Unit {0}
-CommandFits r c (seq a b) = (a < c) × (b < c)
+CommandFits r c (then a b) = (a < c) × (b < c)
 CommandFits r c (store a b) = (a < r .exprs) × (b < r .exprs)
 CommandFits r c (ifElse a b d) = (a < r .exprs) × (b < c) × (d < c)
 CommandFits r c (while a b) = (a < r .exprs) × (b < c)

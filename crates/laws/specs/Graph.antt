@@ -2,7 +2,7 @@
 -- A marking is acceptable exactly if it meets every demand of the graph (`Promises.Meeting`).
 use Prim.Native.Nat.{ℕ, zero, suc, _≤_}
 use mathlib.Core.List.{List, [], _∷_, _++_}
-use Rattle.rules.specs.Table.{Expr, Command, Routine, literal, home, cast, null, sum, read, op, skip, seq, store, ifElse, while}
+use Rattle.rules.specs.Table.{Expr, Command, Routine, literal, home, cast, null, sum, read, op, skip, then, store, ifElse, while}
 use Rattle.rules.specs.Shape.{typeOf}
 use Rattle.laws.specs.Convert.{byteOf}
 
@@ -87,7 +87,7 @@ exprNeed r Expr.none = nothing
 
 abbrev pub commandNeed : Routine → Command → Need
 commandNeed r skip = nothing
-commandNeed r (seq a b) = nothing
+commandNeed r (then a b) = nothing
 commandNeed r (store a b) = converting (typeOf r b) (r .target (typeOf r a))
 commandNeed r (ifElse a b c) = nothing
 commandNeed r (while a b) = nothing

@@ -8,8 +8,9 @@ use native.Mathlib.Decide.{ℕ-discrete, decLt}
 use native.Mathlib.Omega.{arith}
 use mathlib.Core.List.{List, _++_}
 use lib.ListN.{length, getD, replicate, length-replicate, getD-replicate, List·getD-eq-default}
-use Rattle.rules.specs.Table.{Expr, Command, Routine, literal, home, cast, null, sum, read, op, skip, seq, store, ifElse, while}
-use Rattle.rules.specs.Kinds.{int, kindOf, kind, notSafe, spreads, exprKind, commandKind, converts, Acceptable}
+use Rattle.rules.specs.Table.{Expr, Command, Routine, literal, home, cast, null, sum, read, op, skip, then, store, ifElse, while}
+use Rattle.rules.specs.declared.Kind.the-variants.{int}
+use Rattle.rules.specs.Kinds.{kindOf, kind, notSafe, spreads, exprKind, commandKind, converts, Acceptable}
 use Rattle.rules.specs.Least.{Least}
 use Rattle.rules.specs.Tests.{false-true}
 use Rattle.laws.specs.Convert.{byteOf, Spread}
@@ -105,7 +106,7 @@ expr-need r m Expr.none = refl
 
 command-need : (r : Routine) (m : List ℕ) (x : Command) → commandKind r m x ≡ needKind r m (commandNeed r x)
 command-need r m skip = refl
-command-need r m (seq a b) = refl
+command-need r m (then a b) = refl
 command-need r m (store a b) = refl
 command-need r m (ifElse a b c) = refl
 command-need r m (while a b) = refl
@@ -147,7 +148,7 @@ module _ {r : Routine} (formed : Formed r) where
 
   command-fits : (c : ℕ) (x : Command) → CommandFits r c x → NeedFits r (commandNeed r x)
   command-fits c skip y = tt
-  command-fits c (seq a b) y = tt
+  command-fits c (then a b) y = tt
   command-fits c (store a b) y = type-le formed b (y .1)
   command-fits c (ifElse a b d) y = tt
   command-fits c (while a b) y = tt

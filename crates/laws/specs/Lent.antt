@@ -14,14 +14,16 @@ use borrow.Author.Tests.{ltb-true, le-leb}
 use Rattle.rules.specs.declared.Value.{Value}
 use Rattle.rules.specs.declared.Value.the-variants.{Number, Pair}
 use Rattle.rules.specs.Basic.{choose}
-use Rattle.rules.specs.Table.{Expr, Command, Home, Routine, routine, total, literal, home, cast, null, sum, read, op, skip, seq, store, ifElse, while}
+use Rattle.rules.specs.Table.{Expr, Command, Home, Routine, routine, total, literal, home, cast, null, sum, read, op, skip, then, store, ifElse, while}
 use Rattle.rules.specs.Shape.{homeAt, typeOf}
-use Rattle.rules.specs.Kinds.{Kind, int, SAFE, SEQ, DYNAMIC, kind}
+use Rattle.rules.specs.declared.Kind.{Kind}
+use Rattle.rules.specs.declared.Kind.the-variants.{int, SAFE, SEQ, DYNAMIC}
+use Rattle.rules.specs.Kinds.{kind}
 use Rattle.rules.specs.Steps.{Step, entered, Told, quiet, after}
 use Rattle.rules.specs.Memory.{State, cell, put, encode, decode, held, size, address}
 use Rattle.rules.specs.Ruled.{Check, check2, Ruled, gives, fails, stuck, onward, must}
 use Rattle.rules.specs.Values.{convert, homeValue, reachSafe, reach, fetched, load, paired, kept}
-use Rattle.rules.specs.Run.{Stop, Answer, got, stopped, Ran, done, halted, onValue, andThen, ruled, enter, onDone, afterwards, answered, turns, exprRow, evalBelow, commandRow, execBelow, startCells, givenValue, cleared, given, start, run}
+use Rattle.rules.specs.Run.{Stop, Answer, got, stopped, Ran, done, halted, onValue, andThen, ruled, enter, onDone, afterwards, answered, turns, exprRow, evalBelow, commandRow, execBelow, freshCells, givenValue, cleared, given, start, run}
 use Rattle.rules.specs.Calls.{cellCount, running, runnable, reported}
 use Rattle.rules.specs.Tests.{false-true, parts-true, by-test}
 use Rattle.laws.specs.Promises.{Alone, SameRun}
@@ -257,7 +259,7 @@ module _ {n : ℕ} where
     command-twins : {ex : State → ℕ → ℕ → Told Ran} → ((w z : State) (a f : ℕ) → Agree n w z → Twins n (ex w a f) (ex z a f))
         → (p : ℕ) (x : Command) (w z : State) (f : ℕ) → Agree n w z → Twins n (commandRow r m ex p x w f) (commandRow r m ex p x z f)
     command-twins h p skip w z f same = twins-quiet (bothDone same)
-    command-twins h p (seq a b) w z f same = twins-on (h w z a f same) (λ w₁ z₁ f₁ s₁. h w₁ z₁ b f₁ s₁)
+    command-twins h p (then a b) w z f same = twins-on (h w z a f same) (λ w₁ z₁ f₁ s₁. h w₁ z₁ b f₁ s₁)
     command-twins h p (store a b) w z f same =
         twins-then same (eval-agree r m same (suc a) a f) (λ v f₁.
         twins-ruled same p f₁ (reach-agree same (kind m (typeOf r a)) v) (λ c.
@@ -318,7 +320,7 @@ module _ {r : Routine} (formed : Formed r) where
 
   start-agrees : (m lent lent′ : List ℕ) → Agree (cellCount r) (start r m lent) (start r m lent′)
   start-agrees m lent lent′ =
-      let cells = startCells r m (drop 1 (r .homes)) in
+      let cells = freshCells r m (drop 1 (r .homes)) in
       let e = length-start r m (drop 1 (r .homes)) in
       given-agrees m (cleared r m lent) (cleared r m lent′)
       (agree reached (take-at cells (drop (length cells) lent) (cellCount r) e ∙ sym (take-at cells (drop (length cells) lent′) (cellCount r) e)))

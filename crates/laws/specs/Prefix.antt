@@ -4,7 +4,7 @@ use Rattle.rules.specs.declared.Value.{Value}
 use Rattle.rules.specs.Run.{Stop, noFuel, failed, noRule, Answer, got, stopped, onValue, andThen, ruled, enter, answered, exprRow, evalBelow, Ran, done, halted, onDone, afterwards, turns, commandRow, execBelow}
 use Rattle.rules.specs.Basic.{choose}
 use Rattle.rules.specs.Steps.{Step, entered, Told, quiet, after, units}
-use Rattle.rules.specs.Table.{Expr, Command, Routine, literal, home, cast, null, sum, read, op, skip, seq, store, ifElse, while}
+use Rattle.rules.specs.Table.{Expr, Command, Routine, literal, home, cast, null, sum, read, op, skip, then, store, ifElse, while}
 use Rattle.rules.specs.Shape.{typeOf}
 use Rattle.rules.specs.Kinds.{kind}
 use Rattle.rules.specs.Memory.{State}
@@ -137,7 +137,7 @@ module _ (d : ℕ) where
     command-longer : {ex : State → ℕ → ℕ → Told Ran} → ((w : State) (a f : ℕ) → Spends leftAfter f (ex w a f)) → ((w : State) (a f : ℕ) → MoreRan (ex w a f) (ex w a (f + d)))
         → (p : ℕ) (x : Command) (w : State) (f : ℕ) → MoreRan (commandRow r m ex p x w f) (commandRow r m ex p x w (f + d))
     command-longer s h p skip w f = alike refl refl
-    command-longer s h p (seq a b) w f = longer-on _ _ (s w a f) (h w a f) (λ w₁ f₁ l. h w₁ b f₁)
+    command-longer s h p (then a b) w f = longer-on _ _ (s w a f) (h w a f) (λ w₁ f₁ l. h w₁ b f₁)
     command-longer s h p (store a b) w f =
         longer-then d halts (λ _. cutRan) _ _ (eval-spends r m w (suc a) a f) (eval-longer w (suc a) a f) (λ v f₁ l.
         longer-ruled d halts (λ _. cutRan) _ _ p f₁ (reach w (kind m (typeOf r a)) v) (λ c.

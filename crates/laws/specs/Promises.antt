@@ -15,14 +15,16 @@ use Rattle.rules.specs.declared.RunAnswer.{RunAnswer}
 use Rattle.rules.specs.Basic.{byte, half, width, fine, refused, unlessRefused}
 use Rattle.rules.specs.Table.{Routine, routine, null}
 use Rattle.rules.specs.Reading.{cells, sections, reading, rises}
-use Rattle.rules.specs.Kinds.{Kind, SAFE, kind, notSafe, sameBelow, same, typeKind, exprKind, commandKind, Acceptable}
+use Rattle.rules.specs.declared.Kind.{Kind}
+use Rattle.rules.specs.declared.Kind.the-variants.{SAFE}
+use Rattle.rules.specs.Kinds.{kind, notSafe, sameBelow, same, typeKind, exprKind, commandKind, Acceptable}
 use Rattle.rules.specs.Shape.{homeAt, typeOf, exprShaped, commandShaped, valueShaped, shape}
 use Rattle.rules.specs.Least.{Least}
 use Rattle.rules.specs.Steps.{Step, entered, stored, Told, units}
 use Rattle.rules.specs.Memory.{State, cell, replay}
 use Rattle.rules.specs.Ruled.{Check, check2, gives, fails}
 use Rattle.rules.specs.Values.{convert, reach, moved}
-use Rattle.rules.specs.Run.{Stop, noFuel, failed, noRule, Ran, done, halted, startValue, startAddress, givenIn, cleared, start, exec, run}
+use Rattle.rules.specs.Run.{Stop, noFuel, failed, noRule, Ran, done, halted, freshValue, startAddress, givenIn, cleared, start, exec, run}
 use Rattle.rules.specs.Valid.{In, Real, InHome, Valid, ValidState}
 use Rattle.rules.specs.Calls.{formed, judged, cellCount, outOfFuel, endingOf, stateOf, Left, Ended, Inferred, checking, running, readSays, checkSays, inferSays, runSays, runnable}
 use Rattle.laws.specs.Formed.{Fits, CommandFits, ValueFits}
@@ -114,7 +116,7 @@ pub record Starting (r : Routine) (m : List ℕ) (w : State) : Type 0 where
   pub given : (i : ℕ) → i < r .values
       → cell w (startAddress r (r .value i)) ≡ givenIn r m (r .value i)
   pub others : (g a : ℕ) → Real (r .homes) g → In (homeAt (r .homes) g) a → ((i : ℕ) → i < r .values → a ≡ startAddress r (r .value i) → ⊥)
-      → cell w a ≡ startValue (kind m (homeAt (r .homes) g .type)) (kind m (r .target (homeAt (r .homes) g .type)))
+      → cell w a ≡ freshValue (kind m (homeAt (r .homes) g .type)) (kind m (r .target (homeAt (r .homes) g .type)))
 
 abbrev pub StartingMemory : Type 0
 StartingMemory = (s m lent : List ℕ) (at : Starts) → Bytes s → formed s ≡ fine at → Starting (routine s at) m (start (routine s at) m lent)

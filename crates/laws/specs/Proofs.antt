@@ -8,12 +8,13 @@ use Rattle.rules.specs.Basic.{Verdict, fine, refused}
 use Rattle.rules.specs.Steps.{Step, entered, stored, Told, units}
 use Rattle.rules.specs.Table.{Home, Routine, routine, total}
 use Rattle.rules.specs.Shape.{homeAt}
-use Rattle.rules.specs.Kinds.{Acceptable, int, SAFE, SEQ, DYNAMIC}
+use Rattle.rules.specs.declared.Kind.the-variants.{int, SAFE, SEQ, DYNAMIC}
+use Rattle.rules.specs.Kinds.{Acceptable}
 use Rattle.rules.specs.Calls.{formed, judged, cellCount, outOfFuel, endingOf, stateOf, Ended, Left, orLeave, Inferred, left, marked, inferable, runnable, running}
 use Rattle.rules.specs.Memory.{State, put, replay, encode}
 use Rattle.rules.specs.Ruled.{Check, check1, check2, check3, gives, fails}
 use Rattle.rules.specs.Values.{convert, reach}
-use Rattle.rules.specs.Run.{noFuel, failed, noRule, Ran, done, halted, startCells, cleared, start, run}
+use Rattle.rules.specs.Run.{noFuel, failed, noRule, Ran, done, halted, freshCells, cleared, start, run}
 use Rattle.rules.specs.Valid.{InHome, Laid, ValidState}
 use mathlib.Core.Path.{_≡_, refl, sym, _∙_}
 use mathlib.Core.Logic.{_⊎_, inl, inr}
@@ -104,7 +105,7 @@ surplus s m lent fuel at b j =
     let (f, k) = accepted b j in
     let n = total (drop 1 (routine s at .homes)) in
     let x = exec-ok f k (r .commands - 1) fuel (omega (arith, f .some)) (start-ok r m f lent) in
-    past n (start-laid r m f lent) (x .steps) ∙ given-past r m f lent (r .values) (cleared r m lent) (le-refl (r .values)) ∙ from-lent n (startCells r m (drop 1 (r .homes))) (length-start r m (drop 1 (r .homes)))
+    past n (start-laid r m f lent) (x .steps) ∙ given-past r m f lent (r .values) (cleared r m lent) (le-refl (r .values)) ∙ from-lent n (freshCells r m (drop 1 (r .homes))) (length-start r m (drop 1 (r .homes)))
   where
     from-lent : (n : ℕ) (cells : List ℕ) → length cells ≡ n → drop n (cells ++ drop (length cells) lent) ≡ drop n lent
     from-lent n cells e = rw (← e) (drop-append-seam cells (drop (length cells) lent))

@@ -10,7 +10,7 @@ use lib.Dec.{leb, ltb}
 use borrow.Author.Tests.{leb-true, ltb-true}
 use Rattle.rules.specs.declared.Starts.{Starts}
 use Rattle.rules.specs.Basic.{width, half, byte, inRange, fine}
-use Rattle.rules.specs.Table.{Expr, Command, Routine, layout, operatorOf, exprOf, exprAt, commandAt, routine, literal, home, cast, null, sum, read, op, skip, seq, store, ifElse, while}
+use Rattle.rules.specs.Table.{Expr, Command, Routine, layout, operatorOf, exprOf, exprAt, commandAt, routine, literal, home, cast, null, sum, read, op, skip, then, store, ifElse, while}
 use Rattle.rules.specs.Reading.{exprGood, commandGood, exprSpare, commandSpare, rowGood, rows, cells}
 use Rattle.rules.specs.Shape.{homeAt}
 use Rattle.rules.specs.Kinds.{Acceptable}
@@ -72,7 +72,7 @@ expr-small tag a b h l =
 
 pub command-fits : (r : Routine) (c : ℕ) (x : Command) → commandGood (r .exprs) c x ≡ true → CommandFits r c x
 command-fits r c skip h = tt
-command-fits r c (seq a b) h = both-less a b c c h
+command-fits r c (then a b) h = both-less a b c c h
 command-fits r c (store a b) h = both-less a b (r .exprs) (r .exprs) h
 command-fits r c (ifElse a b d) h =
     let (p, q) = parts-true (ltb a (r .exprs)) _ h in let (u, v) = both-less b d c c q in (ltb-true a (r .exprs) p, u, v)

@@ -2,7 +2,9 @@
 use mathlib.Core.Bool.{true, false, _&&_}
 use Rattle.rules.specs.Basic.{choose}
 use Rattle.rules.specs.Table.{Routine}
-use Rattle.rules.specs.Kinds.{Kind, int, SAFE, SEQ, DYNAMIC, kind, sameKind, deep, sameBelow, same}
+use Rattle.rules.specs.declared.Kind.{Kind}
+use Rattle.rules.specs.declared.Kind.the-variants.{int, SAFE, SEQ, DYNAMIC}
+use Rattle.rules.specs.Kinds.{kind, sameKind, deep, sameBelow, same}
 use mathlib.Core.Path.{_≡_, refl, sym, ap, _∙_}
 use Prim.Native.Nat.{ℕ, zero, suc, _≤_, _<_}
 use native.Mathlib.Nat.{not-suc-le-zero}

@@ -2,9 +2,10 @@
 use mathlib.Core.Bool.{true}
 use Rattle.rules.specs.Run.{Answer, exprRow, evalBelow, eval, Ran, turns, commandRow, execBelow, exec}
 use Rattle.rules.specs.Steps.{Told}
-use Rattle.rules.specs.Table.{Expr, Command, Routine, literal, home, cast, null, sum, read, op, skip, seq, store, ifElse, while}
+use Rattle.rules.specs.Table.{Expr, Command, Routine, literal, home, cast, null, sum, read, op, skip, then, store, ifElse, while}
 use Rattle.rules.specs.Shape.{rowType, typeOf, exprShaped, commandShaped, isInt, isRef}
-use Rattle.rules.specs.Kinds.{Acceptable, Kind, kind, kindConverts, converts, spreads, exprKind, commandKind}
+use Rattle.rules.specs.declared.Kind.{Kind}
+use Rattle.rules.specs.Kinds.{Acceptable, kind, kindConverts, converts, spreads, exprKind, commandKind}
 use Rattle.rules.specs.Memory.{State}
 use Rattle.rules.specs.Valid.{Real, number, Valid, ValidState}
 use mathlib.Core.Path.{_≡_, refl}
@@ -108,7 +109,7 @@ module _ {r : Routine} {m : List ℕ} (formed : Formed r) (accepted : Acceptable
       → ((w : State) (a f : ℕ) → a < c → ValidState r m w → Executes r m w (ex w a f))
       → {w : State} (f : ℕ) → ValidState r m w → Executes r m w (commandRow r m ex p x w f)
   command-ok p skip y s k h f ok = goes-done
-  command-ok p (seq a b) y s k h f ok = goes-on ok (h _ a f (y .0) ok) (λ w₁ f₁ ok₁. h w₁ b f₁ (y .1) ok₁)
+  command-ok p (then a b) y s k h f ok = goes-on ok (h _ a f (y .0) ok) (λ w₁ f₁ ok₁. h w₁ b f₁ (y .1) ok₁)
   command-ok p {ex} (store a b) y s k h f ok = store-ok ok ex a b p f (y .0) (y .1) s k
   command-ok p (ifElse a b d) y s k h f ok =
       goes-then command-stops (test-ok ok a f (y .0) s) (λ v f₁ i.

@@ -3,10 +3,12 @@ use mathlib.Core.Bool.{true, false}
 use Rattle.rules.specs.Basic.{width}
 use Rattle.rules.specs.Table.{Home, StartRow, Routine, total}
 use Rattle.rules.specs.Shape.{homeAt}
-use Rattle.rules.specs.Kinds.{Kind, int, SAFE, SEQ, DYNAMIC, kind, isDynamic}
+use Rattle.rules.specs.declared.Kind.{Kind}
+use Rattle.rules.specs.declared.Kind.the-variants.{int, SAFE, SEQ, DYNAMIC}
+use Rattle.rules.specs.Kinds.{kind, isDynamic}
 use Rattle.rules.specs.Memory.{State, cell, encode}
 use Rattle.rules.specs.Values.{nullValue}
-use Rattle.rules.specs.Run.{startValue, startCells, givenValue, cleared, given, start}
+use Rattle.rules.specs.Run.{freshValue, freshCells, givenValue, cleared, given, start}
 use Rattle.rules.specs.Valid.{In, Real, Laid, ValidAt, number, wildPair, Valid, Holds, ValidState}
 use mathlib.Core.Path.{_≡_, refl, sym, ap, _∙_}
 use mathlib.Core.Logic.{inl}
@@ -57,7 +59,7 @@ null-small SAFE = lit< tt
 null-small SEQ = lit< tt
 null-small DYNAMIC = lit< tt
 
-start-small : (s t : Kind) → Small (startValue s t)
+start-small : (s t : Kind) → Small (freshValue s t)
 start-small int t = lit< tt
 start-small SAFE t = null-small t
 start-small SEQ t = null-small t
@@ -71,25 +73,25 @@ given-small DYNAMIC n l = l
 
 module _ (r : Routine) (m : List ℕ) where
   abbrev entry : Home → ℕ
-  entry h = encode (startValue (kind m (h .type)) (kind m (r .target (h .type))))
+  entry h = encode (freshValue (kind m (h .type)) (kind m (r .target (h .type))))
 
-  pub length-start : (hs : List Home) → length (startCells r m hs) ≡ total hs
+  pub length-start : (hs : List Home) → length (freshCells r m hs) ≡ total hs
   length-start [] = refl
   length-start (h ∷ hs) = rw (length-append, length-replicate, length-start hs)
 
-  filled : {from : ℕ} {hs : List Home} (g a : ℕ) → Consecutive from hs → In (homeAt hs g) a → getD (startCells r m hs) (a - from) 0 ≡ entry (homeAt hs g)
+  filled : {from : ℕ} {hs : List Home} (g a : ℕ) → Consecutive from hs → In (homeAt hs g) a → getD (freshCells r m hs) (a - from) 0 ≡ entry (homeAt hs g)
   filled g a last x = absurd (omega (arith, x .to))
   filled zero a (behind {from = from} {h = h} {hs = hs} e c) x =
       let k : a - from < h .size = omega (arith, x .from, x .to) in
-      List·getD-append (replicate (h .size) (entry h)) (startCells r m hs) 0 (a - from) (rw length-replicate k)
+      List·getD-append (replicate (h .size) (entry h)) (freshCells r m hs) 0 (a - from) (rw length-replicate k)
       ∙ getD-replicate (h .size) (a - from) (entry h) 0 k
   filled (suc g) a (behind {from = from} {h = h} {hs = hs} e c) x =
       let k : from + h .size ≤ a = omega (arith, x .from, low g c (some x)) in
       let e : a - from ≡ length (replicate (h .size) (entry h)) + (a - (from + h .size)) = rw length-replicate (omega arith) in
-      rw e (getD-append-add (replicate (h .size) (entry h)) (startCells r m hs) (a - (from + h .size)) 0 ∙ filled g a c x)
+      rw e (getD-append-add (replicate (h .size) (entry h)) (freshCells r m hs) (a - (from + h .size)) 0 ∙ filled g a c x)
 
   start-holds : (hs : List Home) (s : Kind) (t : ℕ) → (s ≡ int → ⊥)
-      → (isDynamic s ≡ false → Valid r m hs t (startValue s (kind m t))) × (isDynamic s ≡ true → ValidAt r m hs DYNAMIC 0 (startValue s (kind m t)))
+      → (isDynamic s ≡ false → Valid r m hs t (freshValue s (kind m t))) × (isDynamic s ≡ true → ValidAt r m hs DYNAMIC 0 (freshValue s (kind m t)))
   start-holds hs int t n = absurd (n refl)
   start-holds hs SAFE t n = (λ _. null-ok (kind m t), λ d. false-true d)
   start-holds hs SEQ t n = (λ _. null-ok (kind m t), λ d. false-true d)
@@ -103,15 +105,15 @@ module _ (r : Routine) (m : List ℕ) where
     abbrev blank : List ℕ → State
     blank l = record { homes = r .homes; memory = cleared r m l }
 
-    blank-cell : (g a : ℕ) → 0 < homeAt hs g .size → In (homeAt hs g) a → cell (blank lent) a ≡ startValue (kind m (homeAt hs g .type)) (kind m (r .target (homeAt hs g .type)))
+    blank-cell : (g a : ℕ) → 0 < homeAt hs g .size → In (homeAt hs g) a → cell (blank lent) a ≡ freshValue (kind m (homeAt hs g .type)) (kind m (r .target (homeAt hs g .type)))
     blank-cell g a l i =
-        let k : a - 1 < length (startCells r m hs) = rw (length-start hs) (omega (arith, i .from, i .to, low g (formed .consecutive) l, high g (formed .consecutive) l)) in
-        rw (List·getD-append (startCells r m hs) (drop (length (startCells r m hs)) lent) 0 (a - 1) k, filled g a (formed .consecutive) i)
-        (decode-encode (startValue (kind m (homeAt hs g .type)) (kind m (r .target (homeAt hs g .type)))) (start-small (kind m (homeAt hs g .type)) (kind m (r .target (homeAt hs g .type)))))
+        let k : a - 1 < length (freshCells r m hs) = rw (length-start hs) (omega (arith, i .from, i .to, low g (formed .consecutive) l, high g (formed .consecutive) l)) in
+        rw (List·getD-append (freshCells r m hs) (drop (length (freshCells r m hs)) lent) 0 (a - 1) k, filled g a (formed .consecutive) i)
+        (decode-encode (freshValue (kind m (homeAt hs g .type)) (kind m (r .target (homeAt hs g .type)))) (start-small (kind m (homeAt hs g .type)) (kind m (r .target (homeAt hs g .type)))))
 
     -- A cell of home g, before the start values.
     pub blank-at : (g a : ℕ) → Real (r .homes) g → In (homeAt (r .homes) g) a
-        → cell (blank lent) a ≡ startValue (kind m (homeAt (r .homes) g .type)) (kind m (r .target (homeAt (r .homes) g .type)))
+        → cell (blank lent) a ≡ freshValue (kind m (homeAt (r .homes) g .type)) (kind m (r .target (homeAt (r .homes) g .type)))
     blank-at zero a y i = absurd (not-suc-le-zero (y .positive))
     blank-at (suc g) a y i = rw (next (r .homes) g) (blank-cell g a (rw (next (r .homes) g) at (y .exists)) (rw (next (r .homes) g) at i))
 

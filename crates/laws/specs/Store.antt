@@ -5,7 +5,9 @@ use Rattle.rules.specs.declared.Value.the-variants.{Number, Pair}
 use Rattle.rules.specs.Basic.{width, choose}
 use Rattle.rules.specs.Table.{Home, Routine}
 use Rattle.rules.specs.Shape.{homeAt}
-use Rattle.rules.specs.Kinds.{Kind, int, SAFE, SEQ, DYNAMIC, kind, same, spreads, isDynamic, kindConverts, targetsMatter}
+use Rattle.rules.specs.declared.Kind.{Kind}
+use Rattle.rules.specs.declared.Kind.the-variants.{int, SAFE, SEQ, DYNAMIC}
+use Rattle.rules.specs.Kinds.{kind, same, spreads, isDynamic, kindConverts, targetsMatter}
 use Rattle.rules.specs.Memory.{State, cell, put, encode, decode}
 use Rattle.rules.specs.Values.{paired, kept}
 use Rattle.rules.specs.Valid.{In, Real, Typed, Untyped, ValidAt, number, address, pair, wildPair, Valid, Holds, ValidState}

@@ -2,7 +2,7 @@
 use Rattle.rules.specs.declared.Value.{Value}
 use Rattle.rules.specs.Run.{Stop, noFuel, Answer, got, stopped, onValue, andThen, ruled, enter, answered, exprRow, evalBelow, Ran, done, halted, onDone, afterwards, turns, commandRow, execBelow}
 use Rattle.rules.specs.Steps.{Step, entered, stored, Told, quiet, after, units}
-use Rattle.rules.specs.Table.{Expr, Command, Routine, literal, home, cast, null, sum, read, op, skip, seq, store, ifElse, while}
+use Rattle.rules.specs.Table.{Expr, Command, Routine, literal, home, cast, null, sum, read, op, skip, then, store, ifElse, while}
 use Rattle.rules.specs.Shape.{typeOf}
 use Rattle.rules.specs.Kinds.{kind}
 use Rattle.rules.specs.Memory.{State}
@@ -108,7 +108,7 @@ module _ (r : Routine) (m : List ℕ) where
   command-spends : {ex : State → ℕ → ℕ → Told Ran} → ((w : State) (a f : ℕ) → Spends leftAfter f (ex w a f))
       → (p : ℕ) (x : Command) (w : State) (f : ℕ) → Spends leftAfter f (commandRow r m ex p x w f)
   command-spends h p skip w f = spends-done
-  command-spends h p (seq a b) w f = spends-on (h w a f) (λ w₁ f₁ l. h w₁ b f₁)
+  command-spends h p (then a b) w f = spends-on (h w a f) (λ w₁ f₁ l. h w₁ b f₁)
   command-spends h p (store a b) w f =
       spends-then command-stop (eval-spends w (suc a) a f) (λ v f₁ l. spends-ruled command-stop p f₁ _ (λ c.
       spends-then command-stop (eval-spends w (suc b) b f₁) (λ x f₂ k. spends-ruled command-stop p f₂ _ (λ y. record { by = omega arith }))))

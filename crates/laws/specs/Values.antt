@@ -5,7 +5,9 @@ use Rattle.rules.specs.declared.Value.the-variants.{Number}
 use Rattle.rules.specs.Basic.{width, choose}
 use Rattle.rules.specs.Table.{Operator, plus, minus, times, over, rest, equal, less, both, right, Home, Routine}
 use Rattle.rules.specs.Shape.{homeAt}
-use Rattle.rules.specs.Kinds.{Kind, int, SAFE, SEQ, DYNAMIC, kind, same, deep, kindConverts, targetsMatter, spreads, notSafe}
+use Rattle.rules.specs.declared.Kind.{Kind}
+use Rattle.rules.specs.declared.Kind.the-variants.{int, SAFE, SEQ, DYNAMIC}
+use Rattle.rules.specs.Kinds.{kind, same, deep, kindConverts, targetsMatter, spreads, notSafe}
 use Rattle.rules.specs.Memory.{State, held, cell}
 use Rattle.rules.specs.Ruled.{Check, check2, must, Ruled, gives, fails, onward}
 use Rattle.rules.specs.Values.{convert, reach, reachSafe, fetched, load, operated, moved, homeValue, nullValue, truth}

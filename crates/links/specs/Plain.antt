@@ -7,7 +7,8 @@ use native.Mathlib.Omega.{arith}
 use mathlib.Core.List.{List, []}
 use lib.ListN.{getD}
 use Rattle.rules.specs.Table.{Expr, Command, Routine}
-use Rattle.rules.specs.Kinds.{int, DYNAMIC, kindOf, deep, same}
+use Rattle.rules.specs.declared.Kind.the-variants.{int, DYNAMIC}
+use Rattle.rules.specs.Kinds.{kindOf, deep, same}
 use Rattle.laws.specs.Convert.{Conv, Spread, byteOf}
 use Rattle.laws.specs.Same.{same-kind, same-targets, reflexive, symmetric, trans}
 use Rattle.raise.specs.Marks.{at}

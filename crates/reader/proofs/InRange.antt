@@ -120,9 +120,9 @@ module _ (s : List ℕ) (q : ℕ) where
     pub home-there : a ≡ true → g ≤ n
     home-there e = in-range 1 g n (sym test ∙ e) .1
 
-    pub value-row : {c z : ℕ} → a ≡ true → c ≡ half s (q + 2) → z ≡ half s (h + 4 * g) → (i : ℕ) → ltb c z ≡ rowGood s (Values h) i q
+    pub start-row : {c z : ℕ} → a ≡ true → c ≡ half s (q + 2) → z ≡ half s (h + 4 * g) → (i : ℕ) → ltb c z ≡ rowGood s (Values h) i q
     unfolding rowGood
-    value-row e x y i = rw (x, y, tested true e, home)
+    start-row e x y i = rw (x, y, tested true e, home)
 
 -- The same for the section that a match took apart.
 pub row-of : (s : List ℕ) (c c′ : Section) (i q : ℕ) (r : Bool) → c ≡ c′ → r ≡ rowGood s c′ i q → r ≡ rowGood s c i q

@@ -29,11 +29,11 @@ use Rattle.view.specs.declared.HomeRow.{HomeRow}
 use Rattle.view.specs.declared.TypeRow.{TypeRow}
 use Rattle.view.specs.declared.ExprRow.{ExprRow}
 use Rattle.view.specs.declared.CommandRow.{CommandRow}
-use Rattle.view.specs.declared.ValueRow.{ValueRow}
+use Rattle.view.specs.declared.StartRow.{StartRow}
 use Rattle.rules.specs.Tests.{false-true, parts-true, both-less, in-range, fine-same}
 use Rattle.laws.specs.WellRead.{WellRead}
 use Rattle.laws.specs.Known.{values-few, values-near, reading-known}
-use Rattle.view.specs.Rows.{homeRow, typeRow, exprRow, commandRow, valueRow, HomeAsked, TypeAsked}
+use Rattle.view.specs.Rows.{homeRow, typeRow, exprRow, commandRow, startRow, HomeAsked, TypeAsked}
 use Rattle.view.specs.Tags.{expr-good-op, command-none}
 use Rattle.view.specs.Means.{expr-means, command-means, home-has, expr-in-range, command-in-range, value-home}
 use Rattle.view.specs.Typed.{type-by-rule, type-in-range}
@@ -227,18 +227,18 @@ module _ {s : List ℕ} {at : Starts} {before : List ℕ} {n e : ℕ} {ty : List
 
 -- ---- start rows
 
-module _ {s : List ℕ} {at : Starts} (known : WellRead s at) {i : ℕ} (less : i < half s (at .values)) {row : ValueRow} (is : row ≡ valueRow s at i) where
+module _ {s : List ℕ} {at : Starts} (known : WellRead s at) {i : ℕ} (less : i < half s (at .values)) {row : StartRow} (is : row ≡ startRow s at i) where
   pub value-shaped-is : {home : HomeRow} {type : TypeRow} → home ≡ homeRow s at (row .home) → type ≡ typeRow s at (home .ty) → eqb (type .target) 0 ≡ valueShaped (routine s at) (routine s at .value i)
   value-shaped-is {home} {type} named e =
       let asked = value-home known less is in
-      let a : row .home ≡ routine s at .value i .home = ap (λ (x : ValueRow). x .home) is in
+      let a : row .home ≡ routine s at .value i .home = ap (λ (x : StartRow). x .home) is in
       let b : home .ty ≡ homeAt (routine s at .homes) (row .home) .type
       = ap (λ (x : HomeRow). x .ty) named ∙ home-has s at (row .home) (asked .first) (asked .row) .type in
       let c : type .target ≡ routine s at .target (home .ty) = ap (λ (x : TypeRow). x .target) e in
       rw (c, b, a)
 
 -- One row after the other.
-pub next-rises : (s : List ℕ) (at : Starts) (i : ℕ) {x y : ValueRow} {v : Bool} → (i ≡ 0 → ⊥) → x ≡ valueRow s at (i - 1) → y ≡ valueRow s at i
+pub next-rises : (s : List ℕ) (at : Starts) (i : ℕ) {x y : StartRow} {v : Bool} → (i ≡ 0 → ⊥) → x ≡ startRow s at (i - 1) → y ≡ startRow s at i
     → v ≡ (ltb (x .home) (y .home) || (eqb (x .home) (y .home) && ltb (x .cell) (y .cell))) → v ≡ rises (routine s at) i
 next-rises s at zero n e f g = absurd (n refl)
 next-rises s at (suc i) n e f g = g ∙ rw (e, f, sub-one (suc i))

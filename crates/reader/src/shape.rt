@@ -8,8 +8,8 @@ use view::expr_row;
 use view::home_row;
 use view::row_counts;
 use view::type_row;
-use view::value_count;
-use view::value_row;
+use view::start_count;
+use view::start_row;
 ghost use mathlib.Core.Path.{_≡_};
 ghost use mathlib.Core.Bool.{_&&_, _||_};
 ghost use Prim.Native.Nat.{_<_, _≤_};
@@ -99,7 +99,7 @@ fn value_shaped(file: &[u8], at: Starts, i: usize) -> bool
     requires { ⌜ WellRead (now file) at × (i < half (now file) (at .values)) ⌝ }
     ensures { λ r. ⌜ r ≡ valueShaped (routine (now (file .entry)) at) (routine (now (file .entry)) at .value i) ⌝ }
 {
-    let row = value_row(file, at, i);
+    let row = start_row(file, at, i);
     let home = home_row(file, at, row.home as usize);
     type_row(file, at, home.ty as usize).target == 0
 }
@@ -122,8 +122,8 @@ fn row_rises(file: &[u8], at: Starts, i: usize) -> bool
     if i == 0 {
         return true;
     }
-    let x = value_row(file, at, i - 1);
-    let y = value_row(file, at, i);
+    let x = start_row(file, at, i - 1);
+    let y = start_row(file, at, i);
     before(x.home, x.cell, y.home, y.cell)
 }
 
@@ -174,7 +174,7 @@ fn count_of(file: &[u8], at: Starts, test: Test) -> usize
     match test {
         Test::Exprs => row_counts(file, at).exprs as usize,
         Test::Commands => row_counts(file, at).commands as usize,
-        _ => value_count(file, at) as usize,
+        _ => start_count(file, at) as usize,
     }
 }
 

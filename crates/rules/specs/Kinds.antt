@@ -5,13 +5,11 @@ use mathlib.Core.Bool.{Bool, true, false, _&&_}
 use mathlib.Core.List.{List}
 use lib.ListN.{getD, length}
 use lib.Dec.{leb, eqb}
+use Rattle.rules.specs.declared.Kind.{Kind}
+use Rattle.rules.specs.declared.Kind.the-variants.{int, SAFE, SEQ, DYNAMIC}
 use Rattle.rules.specs.Basic.{choose, Verdict, guard, firstBad}
-use Rattle.rules.specs.Table.{Expr, Command, Routine, literal, home, cast, null, sum, read, op, skip, seq, store, ifElse, while}
+use Rattle.rules.specs.Table.{Expr, Command, Routine, literal, home, cast, null, sum, read, op, skip, then, store, ifElse, while}
 use Rattle.rules.specs.Shape.{typeOf}
-
--- A reference's kind, or `int` for the type that has none.
-pub data Kind : Type 0 where
-  int SAFE SEQ DYNAMIC : Kind
 
 -- RULES 4.1: a marking's byte.
 abbrev pub kindOf : ℕ → Kind
@@ -136,7 +134,7 @@ exprKind r m Expr.none = true
 -- Each store's value converts to the target of the pointer's type.
 abbrev pub commandKind : Routine → List ℕ → Command → Bool
 commandKind r m skip = true
-commandKind r m (seq a b) = true
+commandKind r m (then a b) = true
 commandKind r m (store a b) = converts r m (typeOf r b) (r .target (typeOf r a))
 commandKind r m (ifElse a b c) = true
 commandKind r m (while a b) = true

@@ -7,7 +7,7 @@ use lib.Dec.{ltb, leb, eqb}
 use Rattle.rules.specs.declared.Starts.{Starts}
 use Rattle.rules.specs.declared.Section.{Section}
 use Rattle.rules.specs.declared.Section.the-variants.{Types, Homes, Exprs, Commands, Values}
-use Rattle.rules.specs.Table.{Expr, Command, StartRow, Routine, exprAt, commandAt, startRowAt, literal, home, cast, null, sum, read, op, skip, seq, store, ifElse, while}
+use Rattle.rules.specs.Table.{Expr, Command, StartRow, Routine, exprAt, commandAt, startRowAt, literal, home, cast, null, sum, read, op, skip, then, store, ifElse, while}
 use Rattle.rules.specs.Basic.{byte, half, choose, inRange, Verdict, fine, unlessRefused, guard, scan, firstBad}
 
 -- ---- the sections (RULES 1.2)
@@ -53,7 +53,7 @@ exprSpare tag a b = getD (true ∷ eqb b 0 ∷ true ∷ true ∷ eqb b 0 ∷ tru
 -- Command row i of a file with E expressions (RULES 1.7, 1.8).
 abbrev pub commandGood : ℕ → ℕ → Command → Bool
 commandGood E i skip = true
-commandGood E i (seq a b) = ltb a i && ltb b i
+commandGood E i (then a b) = ltb a i && ltb b i
 commandGood E i (store a b) = ltb a E && ltb b E
 commandGood E i (ifElse a b c) = ltb a E && (ltb b i && ltb c i)
 commandGood E i (while a b) = ltb a E && ltb b i

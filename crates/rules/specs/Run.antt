@@ -5,9 +5,11 @@ use lib.ListN.{length, replicate, drop, set}
 use Rattle.rules.specs.declared.Value.{Value}
 use Rattle.rules.specs.declared.Value.the-variants.{Number, Pair}
 use Rattle.rules.specs.Basic.{choose}
-use Rattle.rules.specs.Table.{Expr, Command, StartRow, Home, Routine, literal, home, cast, null, sum, read, op, skip, seq, store, ifElse, while}
+use Rattle.rules.specs.Table.{Expr, Command, StartRow, Home, Routine, literal, home, cast, null, sum, read, op, skip, then, store, ifElse, while}
 use Rattle.rules.specs.Shape.{homeAt, typeOf}
-use Rattle.rules.specs.Kinds.{Kind, int, SAFE, SEQ, DYNAMIC, kind}
+use Rattle.rules.specs.declared.Kind.{Kind}
+use Rattle.rules.specs.declared.Kind.the-variants.{int, SAFE, SEQ, DYNAMIC}
+use Rattle.rules.specs.Kinds.{kind}
 use Rattle.rules.specs.Steps.{entered, stored, Told, quiet, after}
 use Rattle.rules.specs.Memory.{State, encode, put}
 use Rattle.rules.specs.Ruled.{Check, Ruled, gives, fails, stuck}
@@ -115,7 +117,7 @@ module _ (r : Routine) (m : List ℕ) where
   -- A row that has been entered; `ex` carries out earlier rows.
   abbrev pub commandRow : (State → ℕ → ℕ → Told Ran) → ℕ → Command → State → ℕ → Told Ran
   commandRow ex p skip w f = quiet (done w f)
-  commandRow ex p (seq a b) w f = afterwards (ex w a f) λ w₁ f₁. ex w₁ b f₁
+  commandRow ex p (then a b) w f = afterwards (ex w a f) λ w₁ f₁. ex w₁ b f₁
   commandRow ex p (store a b) w f =
       andThen (halted w) (eval r m w a f) λ v f₁.
       ruled (halted w) p f₁ (reach w (kind m (typeOf r a)) v) λ c.
@@ -142,11 +144,11 @@ module _ (r : Routine) (m : List ℕ) where
 -- ---- the whole run
 
 -- RULES 5.11: what a cell starts as, by its home's kind and its own.
-abbrev pub startValue : Kind → Kind → Value
-startValue int target = Number 0
-startValue SAFE target = nullValue target
-startValue SEQ target = nullValue target
-startValue DYNAMIC target = Pair 0 0
+abbrev pub freshValue : Kind → Kind → Value
+freshValue int target = Number 0
+freshValue SAFE target = nullValue target
+freshValue SEQ target = nullValue target
+freshValue DYNAMIC target = Pair 0 0
 
 -- What a start row's value is, by the home's kind: a number, or in a DYNAMIC home a pair of home 0.
 abbrev pub givenValue : Kind → ℕ → Value
@@ -160,13 +162,13 @@ abbrev pub startAddress : Routine → StartRow → ℕ
 startAddress r x = homeAt (r .homes) (x .home) .start + x .cell
 
 module _ (r : Routine) (m : List ℕ) where
-  abbrev pub startCells : List Home → List ℕ
-  startCells [] = []
-  startCells (h ∷ hs) = replicate (h .size) (encode (startValue (kind m (h .type)) (kind m (r .target (h .type))))) ++ startCells hs
+  abbrev pub freshCells : List Home → List ℕ
+  freshCells [] = []
+  freshCells (h ∷ hs) = replicate (h .size) (encode (freshValue (kind m (h .type)) (kind m (r .target (h .type))))) ++ freshCells hs
 
   -- The cells' own starting values over the lent entries; surplus entries stay.
   abbrev pub cleared : List ℕ → List ℕ
-  cleared lent = let cells = startCells (drop 1 (r .homes)) in cells ++ drop (length cells) lent
+  cleared lent = let cells = freshCells (drop 1 (r .homes)) in cells ++ drop (length cells) lent
 
   -- What a start row's cell starts as.
   abbrev pub givenIn : StartRow → Value

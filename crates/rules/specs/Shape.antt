@@ -5,7 +5,7 @@ use mathlib.Core.List.{List}
 use lib.ListN.{getD}
 use lib.Dec.{ltb, eqb}
 use Rattle.rules.specs.Basic.{Verdict, firstBad}
-use Rattle.rules.specs.Table.{Expr, Command, StartRow, Home, Routine, literal, home, cast, null, sum, read, op, skip, seq, store, ifElse, while}
+use Rattle.rules.specs.Table.{Expr, Command, StartRow, Home, Routine, literal, home, cast, null, sum, read, op, skip, then, store, ifElse, while}
 
 -- A number that no home has, has no cells.
 abbrev pub noHome : Home
@@ -53,7 +53,7 @@ exprShaped r Expr.none = false
 -- A store's value has any shape.
 abbrev pub commandShaped : Routine → Command → Bool
 commandShaped r skip = true
-commandShaped r (seq a b) = true
+commandShaped r (then a b) = true
 commandShaped r (store a b) = isRef (typeOf r a)
 commandShaped r (ifElse a b c) = isInt (typeOf r a)
 commandShaped r (while a b) = isInt (typeOf r a)

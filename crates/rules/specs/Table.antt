@@ -21,10 +21,10 @@ pub data Expr : Type 0 where
   op : Operator → ℕ → ℕ → Expr
   none : Expr
 
--- RULES 1.7. `seq a b` is a then b.
+-- RULES 1.7. `then a b` is a then b.
 pub data Command : Type 0 where
   skip : Command
-  seq : ℕ → ℕ → Command
+  then : ℕ → ℕ → Command
   store : ℕ → ℕ → Command
   ifElse : ℕ → ℕ → ℕ → Command
   while : ℕ → ℕ → Command
@@ -43,7 +43,7 @@ exprOf tag a b =
 
 -- Tags 0 to 4.
 abbrev pub commandOf : ℕ → ℕ → ℕ → ℕ → Command
-commandOf tag a b c = getD (skip ∷ seq a b ∷ store a b ∷ ifElse a b c ∷ while a b ∷ []) tag Command.none
+commandOf tag a b c = getD (skip ∷ then a b ∷ store a b ∷ ifElse a b c ∷ while a b ∷ []) tag Command.none
 
 -- The row at place q.
 abbrev pub exprAt : List ℕ → ℕ → Expr

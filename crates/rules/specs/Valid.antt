@@ -10,7 +10,9 @@ use Rattle.rules.specs.declared.Value.the-variants.{Number, Pair}
 use Rattle.rules.specs.Basic.{width}
 use Rattle.rules.specs.Table.{Home, Routine}
 use Rattle.rules.specs.Shape.{homeAt}
-use Rattle.rules.specs.Kinds.{Kind, int, SAFE, SEQ, DYNAMIC, kind, isDynamic, same}
+use Rattle.rules.specs.declared.Kind.{Kind}
+use Rattle.rules.specs.declared.Kind.the-variants.{int, SAFE, SEQ, DYNAMIC}
+use Rattle.rules.specs.Kinds.{kind, isDynamic, same}
 use Rattle.rules.specs.Memory.{State, cell}
 
 -- An address lies in a home.

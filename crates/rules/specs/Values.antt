@@ -7,7 +7,8 @@ use Rattle.rules.specs.declared.Value.the-variants.{Number, Pair}
 use Rattle.rules.specs.Basic.{choose, width}
 use Rattle.rules.specs.Table.{Operator}
 use Rattle.rules.specs.Shape.{homeAt}
-use Rattle.rules.specs.Kinds.{Kind, int, SAFE, SEQ, DYNAMIC}
+use Rattle.rules.specs.declared.Kind.{Kind}
+use Rattle.rules.specs.declared.Kind.the-variants.{int, SAFE, SEQ, DYNAMIC}
 use Rattle.rules.specs.Memory.{State, cell, address, size, held}
 use Rattle.rules.specs.Ruled.{Ruled, gives, fails, stuck, onward, must, check1, check2, check3}
 use Rattle.rules.specs.Operators.{applied}

@@ -6,6 +6,14 @@ pub enum Value {
     Pair(u32, u32),
 }
 
+// A reference's kind, or `int` for the type that has none.
+pub enum Kind {
+    int,
+    SAFE,
+    SEQ,
+    DYNAMIC,
+}
+
 // A section of the file, with what its rows are judged by: the counts of types, then homes, and of expressions; the place of the homes' count.
 pub enum Section {
     Types,

@@ -10,7 +10,7 @@ use Rattle.rules.specs.Basic.{half}
 use Rattle.rules.specs.Table.{Home, Routine, layout, total, routine}
 use Rattle.rules.specs.Kinds.{kind}
 use Rattle.rules.specs.Memory.{encode}
-use Rattle.rules.specs.Run.{startValue, startCells, cleared}
+use Rattle.rules.specs.Run.{freshValue, freshCells, cleared}
 use Rattle.rules.specs.Calls.{cellCount}
 use Rattle.laws.specs.Start.{length-start}
 use Rattle.view.specs.declared.HomeRow.{HomeRow}
@@ -24,19 +24,19 @@ use Rattle.runner.proofs.Parts.{spread-length}
 module _ (r : Routine) (m : List ℕ) where
   -- These homes' cells, from place `from` on.
   abbrev finish : List Home → ℕ → List ℕ → List ℕ
-  finish hs from l = take from l ++ startCells r m hs ++ drop (from + total hs) l
+  finish hs from l = take from l ++ freshCells r m hs ++ drop (from + total hs) l
 
   finish-next : (h : Home) (hs : List Home) (from : ℕ) (l : List ℕ) → from + (h .size + total hs) ≤ length l
-      → finish (h ∷ hs) from l ≡ finish hs (from + h .size) (spread l from (h .size) (encode (startValue (kind m (h .type)) (kind m (r .target (h .type))))))
+      → finish (h ∷ hs) from l ≡ finish hs (from + h .size) (spread l from (h .size) (encode (freshValue (kind m (h .type)) (kind m (r .target (h .type))))))
   finish-next h hs from l room =
-      let x = encode (startValue (kind m (h .type)) (kind m (r .target (h .type)))) in
+      let x = encode (freshValue (kind m (h .type)) (kind m (r .target (h .type)))) in
       let p = take from l ++ replicate (h .size) x in
       let n : length (take from l ++ replicate (h .size) x) ≡ from + h .size = rw (length-append, length-take-le from l (omega arith), length-replicate) in
       let a : take (from + h .size) (spread l from (h .size) x) ≡ take from l ++ replicate (h .size) x = take-at _ _ (from + h .size) n in
       let b : from + h .size + total hs ≡ from + (h .size + total hs) = omega arith in
       let c : drop (from + h .size + total hs) (spread l from (h .size) x) ≡ drop (from + (h .size + total hs)) l
       = ap (λ k. drop (k + total hs) (spread l from (h .size) x)) (sym n) ∙ drop-append-add p (drop (from + h .size) l) (total hs) ∙ drop-drop (total hs) (from + h .size) l ∙ rw b in
-      rw (a, c, append-assoc (take from l) (replicate (h .size) x) (startCells r m hs))
+      rw (a, c, append-assoc (take from l) (replicate (h .size) x) (freshCells r m hs))
 
 -- Home g of n is next, and its cells start at place `from`.
 pub record Begun (s : List ℕ) (at : Starts) (m : List ℕ) (n g from : ℕ) (lent l : List ℕ) : Type 0 where

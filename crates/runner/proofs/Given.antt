@@ -17,10 +17,10 @@ use Rattle.laws.specs.WellRead.{WellRead}
 use Rattle.laws.specs.Formed.{Formed}
 use Rattle.laws.specs.Start.{length-start, start-laid, row-below}
 use Rattle.view.specs.declared.HomeRow.{HomeRow}
-use Rattle.view.specs.declared.ValueRow.{ValueRow}
-use Rattle.view.specs.Rows.{homeRow, valueRow}
+use Rattle.view.specs.declared.StartRow.{StartRow}
+use Rattle.view.specs.Rows.{homeRow, startRow}
 use Rattle.view.specs.Means.{home-has, value-home}
-use Rattle.table.specs.Words.{startIn, Homes}
+use Rattle.words.specs.Words.{startIn, Homes}
 use Rattle.filling.specs.Filling.{kindAt}
 
 -- ---- an entry
@@ -37,17 +37,17 @@ given-wild (suc zero) n l = absurd (omega arith)
 given-wild (suc (suc zero)) n l = absurd (omega arith)
 given-wild (suc (suc (suc k))) n l = refl
 
-module _ {s : List ℕ} {at : Starts} (known : WellRead s at) {i : ℕ} (less : i < half s (at .values)) {row : ValueRow} (is : row ≡ valueRow s at i) where
+module _ {s : List ℕ} {at : Starts} (known : WellRead s at) {i : ℕ} (less : i < half s (at .values)) {row : StartRow} (is : row ≡ startRow s at i) where
   home-is : row .home ≡ routine s at .value i .home
-  home-is = ap (λ (x : ValueRow). x .home) is
+  home-is = ap (λ (x : StartRow). x .home) is
 
-  pub value-entry-is : (m : List ℕ) {home : HomeRow} (k : ℕ) {x : ℕ} → home ≡ homeRow s at (row .home) → kindAt k ≡ kind m (home .ty)
+  pub start-entry-is : (m : List ℕ) {home : HomeRow} (k : ℕ) {x : ℕ} → home ≡ homeRow s at (row .home) → kindAt k ≡ kind m (home .ty)
       → x ≡ encode (givenValue (kindAt k) (row .value)) → x ≡ encode (givenIn (routine s at) m (routine s at .value i))
-  value-entry-is m {home} k named e h =
+  start-entry-is m {home} k named e h =
       let asked = value-home known less is in
       let a : home .ty ≡ homeAt (routine s at .homes) (row .home) .type
       = ap (λ (x : HomeRow). x .ty) named ∙ home-has s at (row .home) (asked .first) (asked .row) .type in
-      let b : row .value ≡ routine s at .value i .value = ap (λ (x : ValueRow). x .value) is in
+      let b : row .value ≡ routine s at .value i .value = ap (λ (x : StartRow). x .value) is in
       h ∙ rw (e, a, b, home-is)
 
   -- ---- its cell
@@ -62,8 +62,8 @@ module _ {s : List ℕ} {at : Starts} (known : WellRead s at) {i : ℕ} (less : 
     pub first-address : 1 ≤ startIn t (row .home)
     first-address = omega (arith, start-is, start-laid (routine s at) [] formed [] .low (formed .values i less .0 .home))
 
-    pub value-cell-is : {from : ℕ} → from ≡ startIn t (row .home) → from + row .cell - 1 ≡ startAddress (routine s at) (routine s at .value i) - 1
-    value-cell-is e = let c : row .cell ≡ routine s at .value i .cell = ap (λ (x : ValueRow). x .cell) is in rw (e, start-is, c)
+    pub start-cell-is : {from : ℕ} → from ≡ startIn t (row .home) → from + row .cell - 1 ≡ startAddress (routine s at) (routine s at .value i) - 1
+    start-cell-is e = let c : row .cell ≡ routine s at .value i .cell = ap (λ (x : StartRow). x .cell) is in rw (e, start-is, c)
 
 -- ---- the loop
 

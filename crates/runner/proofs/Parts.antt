@@ -10,7 +10,7 @@ use Rattle.rules.specs.declared.Starts.{Starts}
 use Rattle.rules.specs.declared.Outcome.the-variants as outcome
 use Rattle.rules.specs.Kinds.{kind}
 use Rattle.rules.specs.Memory.{encode}
-use Rattle.rules.specs.Run.{startValue}
+use Rattle.rules.specs.Run.{freshValue}
 use Rattle.laws.specs.Formed.{ref-kind}
 use Rattle.filling.specs.Filling.{kindAt}
 use Rattle.execute.specs.declared.Ran.{Ran}
@@ -49,7 +49,7 @@ spread-length l from n x h = rw (length-append, length-append, length-take-le fr
 
 -- ---- a cell's starting entry
 
-pub entry-plain : (k u : ℕ) → 1 ≤ k → k < 3 → u < 2 → 0 ≡ encode (startValue (kindAt k) (kindAt u))
+pub entry-plain : (k u : ℕ) → 1 ≤ k → k < 3 → u < 2 → 0 ≡ encode (freshValue (kindAt k) (kindAt u))
 entry-plain zero u a b c = absurd (omega arith)
 entry-plain (suc zero) zero a b c = refl
 entry-plain (suc zero) (suc zero) a b c = refl
@@ -59,7 +59,7 @@ entry-plain (suc (suc zero)) (suc zero) a b c = refl
 entry-plain (suc (suc zero)) (suc (suc u)) a b c = absurd (omega arith)
 entry-plain (suc (suc (suc k))) u a b c = absurd (omega arith)
 
-pub entry-pair : (k u : ℕ) → 1 ≤ k → k < 3 → 2 ≤ u → 4294967296 ≡ encode (startValue (kindAt k) (kindAt u))
+pub entry-pair : (k u : ℕ) → 1 ≤ k → k < 3 → 2 ≤ u → 4294967296 ≡ encode (freshValue (kindAt k) (kindAt u))
 entry-pair zero u a b c = absurd (omega arith)
 entry-pair (suc zero) zero a b c = absurd (omega arith)
 entry-pair (suc zero) (suc zero) a b c = absurd (omega arith)
@@ -71,7 +71,7 @@ entry-pair (suc (suc zero)) (suc (suc zero)) a b c = refl
 entry-pair (suc (suc zero)) (suc (suc (suc u))) a b c = refl
 entry-pair (suc (suc (suc k))) u a b c = absurd (omega arith)
 
-pub entry-wild : (k u : ℕ) → 3 ≤ k → 4294967296 ≡ encode (startValue (kindAt k) (kindAt u))
+pub entry-wild : (k u : ℕ) → 3 ≤ k → 4294967296 ≡ encode (freshValue (kindAt k) (kindAt u))
 entry-wild zero u a = absurd (omega arith)
 entry-wild (suc zero) u a = absurd (omega arith)
 entry-wild (suc (suc zero)) u a = absurd (omega arith)
@@ -82,9 +82,9 @@ pub ref-number : (m : List ℕ) (p k : ℕ) → 1 ≤ p → kindAt k ≡ kind m 
 ref-number m p zero l h = absurd (ref-kind m p l (sym h))
 ref-number m p (suc k) l h = omega arith
 
-pub entry-kinds : (r k u t v : ℕ) (m : List ℕ) → r ≡ encode (startValue (kindAt k) (kindAt u)) → kindAt k ≡ kind m t → kindAt u ≡ kind m v
-    → r ≡ encode (startValue (kind m t) (kind m v))
-entry-kinds r k u t v m e p q = e ∙ ap (λ s. encode (startValue s (kindAt u))) p ∙ ap (λ s. encode (startValue (kind m t) s)) q
+pub entry-kinds : (r k u t v : ℕ) (m : List ℕ) → r ≡ encode (freshValue (kindAt k) (kindAt u)) → kindAt k ≡ kind m t → kindAt u ≡ kind m v
+    → r ≡ encode (freshValue (kind m t) (kind m v))
+entry-kinds r k u t v m e p q = e ∙ ap (λ s. encode (freshValue s (kindAt u))) p ∙ ap (λ s. encode (freshValue (kind m t) s)) q
 
 -- ---- a row's place
 

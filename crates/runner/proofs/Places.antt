@@ -5,7 +5,7 @@ use native.Mathlib.Omega.{arith}
 use mathlib.Core.List.{List}
 use Rattle.rules.specs.declared.Value.{Value}
 use Rattle.rules.specs.Steps.{Told}
-use Rattle.rules.specs.Table.{Expr, Command, Routine, literal, home, cast, null, sum, read, op, skip, seq, store, ifElse, while}
+use Rattle.rules.specs.Table.{Expr, Command, Routine, literal, home, cast, null, sum, read, op, skip, then, store, ifElse, while}
 use Rattle.rules.specs.Memory.{State}
 use Rattle.rules.specs.Ruled.{Ruled, gives, fails, stuck}
 use Rattle.rules.specs.Shape.{typeOf}
@@ -98,7 +98,7 @@ module _ (P : ℕ → Type 0) where
     command-at : (p c : ℕ) (ex : State → ℕ → ℕ → Told Ran) (x : Command) (w : State) (f : ℕ) → P p → CommandFits r c x
         → ((w : State) (a f : ℕ) → a < c → RanAt (ex w a f .answer)) → RanAt (commandRow r m ex p x w f .answer)
     command-at p c ex skip w f h y i = tt
-    command-at p c ex (seq a b) w f h y i = on-at (ex w a f) _ (i w a f (y .0)) (λ w₁ f₁. i w₁ b f₁ (y .1))
+    command-at p c ex (then a b) w f h y i = on-at (ex w a f) _ (i w a f (y .0)) (λ w₁ f₁. i w₁ b f₁ (y .1))
     command-at p c ex (store a b) w f h y i =
         then-at RanAt (halted w) (λ s q. q) _ _ (eval-at w (suc a) a f (le-refl (suc a)) (y .0)) (λ v f₁.
         ruled-at RanAt (halted w) (λ s q. q) p f₁ _ _ h (λ d.

@@ -15,7 +15,7 @@ use Rattle.laws.specs.Promises.{Ends, atStop, leftAfter}
 use Rattle.laws.specs.Start.{start-ok}
 use Rattle.laws.specs.Sound.{exec-ok}
 use Rattle.laws.specs.Units.{exec-spends}
-use Rattle.table.specs.Words.{Tabled}
+use Rattle.words.specs.Words.{Tabled}
 use Rattle.laws.specs.WellRead.{WellRead}
 use Rattle.filling.specs.Filling.{Accepted, CommandsDone}
 use Rattle.filling.proofs.Words.{known, well, fit}

@@ -9,7 +9,7 @@ use Rattle.rules.specs.declared.Report.{Report}
 use Rattle.rules.specs.Basic.{choose}
 use Rattle.rules.specs.Kinds.{kind}
 use Rattle.rules.specs.Memory.{encode}
-use Rattle.rules.specs.Run.{startValue}
+use Rattle.rules.specs.Run.{freshValue}
 use Rattle.view.specs.Rows.{typeRow}
 use Rattle.execute.specs.declared.Ran.{Ran}
 use Rattle.execute.specs.declared.Ran.the-variants.{Done, Fuel, Check}
@@ -20,7 +20,7 @@ spread l from n x = take from l ++ replicate n x ++ drop (from + n) l
 
 -- The starting entry of the cells of a home of type p.
 abbrev pub entryIn : List ℕ → Starts → List ℕ → ℕ → ℕ
-entryIn s at m p = encode (startValue (kind m p) (kind m (typeRow s at p .target)))
+entryIn s at m p = encode (freshValue (kind m p) (kind m (typeRow s at p .target)))
 
 -- The place of a row by its number in the table.
 abbrev pub placeAt : Starts → ℕ → ℕ

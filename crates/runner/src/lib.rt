@@ -11,12 +11,12 @@ ghost use Prim.Native.Nat.{ℕ, _+_, _-_, _≤_, _<_};
 ghost use lib.ListN.{length};
 ghost use Rattle.rules.specs.Table.{routine};
 ghost use Rattle.rules.specs.Memory.{encode};
-ghost use Rattle.rules.specs.Run.{startValue, givenValue, startAddress, givenIn, cleared, given, run};
+ghost use Rattle.rules.specs.Run.{freshValue, givenValue, startAddress, givenIn, cleared, given, run};
 ghost use Rattle.rules.specs.Basic.{half};
 ghost use Rattle.rules.specs.Calls.{cellCount, runSays, reported, running, Left, Ended};
 ghost use Rattle.laws.specs.WellRead.{WellRead};
 ghost use Rattle.laws.specs.Formed.{Formed};
-ghost use Rattle.table.specs.Words.{Homes};
+ghost use Rattle.words.specs.Words.{Homes};
 ghost use Rattle.filling.specs.Filling.{kindAt, Accepted, ReferenceReady};
 ghost use Rattle.runner.specs.Whole.{spread, entryIn, placeAt, reportOf, Reportable};
 
@@ -35,9 +35,9 @@ fn write(memory: &mut [u64], from: usize, n: usize, x: u64)
 }
 
 // What a cell starts as, by the kind of its home's type and of its own. A home's type is no int.
-fn start_entry(k: u8, target: u8) -> u64
+fn fresh_entry(k: u8, target: u8) -> u64
     requires { ⌜ 1 ≤ k ⌝ }
-    ensures { λ r. ⌜ r ≡ encode (startValue (kindAt k) (kindAt target)) ⌝ }
+    ensures { λ r. ⌜ r ≡ encode (freshValue (kindAt k) (kindAt target)) ⌝ }
 {
     if k < 3 {
         if target < 2 {
@@ -55,7 +55,7 @@ fn home_entry(file: &[u8], at: Starts, marking: &[u8], p: u16) -> u64
     let row = view::type_row(file, at, p as usize);
     let k = filling::kind_of(marking, p);
     let target = filling::kind_of(marking, row.target);
-    start_entry(k, target)
+    fresh_entry(k, target)
 }
 
 // Writes the cells' own starting values over the lent cells.
@@ -86,23 +86,23 @@ fn given_entry(k: u8, value: u32) -> u64
 }
 
 // The same for start row `i`.
-fn value_entry(file: &[u8], at: Starts, marking: &[u8], ty: &[u16; 1024], i: usize) -> u64
+fn start_entry(file: &[u8], at: Starts, marking: &[u8], ty: &[u16; 1024], i: usize) -> u64
     requires { ⌜ Accepted (now file) at (now marking) (now ty) × (i < half (now file) (at .values)) ⌝ }
     ensures { λ r. ⌜ r ≡ encode (givenIn (routine (now (file .entry)) at) (now (marking .entry)) (routine (now (file .entry)) at .value i)) ⌝ }
 {
-    let row = view::value_row(file, at, i);
+    let row = view::start_row(file, at, i);
     let home = view::home_row(file, at, row.home as usize);
     let k = filling::kind_of(marking, home.ty);
     given_entry(k, row.value)
 }
 
 // The place in memory of start row `i`'s cell.
-fn value_cell(file: &[u8], at: Starts, t: &[u64; 2113], i: usize) -> usize
+fn start_cell(file: &[u8], at: Starts, t: &[u64; 2113], i: usize) -> usize
     requires { ⌜ WellRead (now file) at × Formed (routine (now file) at) × Homes (routine (now file) at .homes) (now t) × (i < half (now file) (at .values)) ⌝ }
     ensures { λ r. ⌜ r ≡ startAddress (routine (now (file .entry)) at) (routine (now (file .entry)) at .value i) - 1 ⌝ }
 {
-    let row = view::value_row(file, at, i);
-    let start = table::start_of(t, row.home as u32) as usize;
+    let row = view::start_row(file, at, i);
+    let start = words::start_of(t, row.home as u32) as usize;
     start + row.cell as usize - 1
 }
 
@@ -118,11 +118,11 @@ fn give(
     requires { ⌜ Accepted (now file) at (now marking) (now ty) × Homes (routine (now file) at .homes) (now t) × (cellCount (routine (now file) at) ≤ length (now memory)) ⌝ }
     ensures { λ _. ⌜ now (memory .exit) ≡ given (routine (now (file .entry)) at) (now (marking .entry)) (half (now (file .entry)) (at .values)) (now (memory .entry)) ⌝ }
 {
-    let n = view::value_count(file, at) as usize;
+    let n = view::start_count(file, at) as usize;
     let mut i: usize = 0;
     while i < n {
-        let x = value_entry(file, at, marking, ty, i);
-        let c = value_cell(file, at, t, i);
+        let x = start_entry(file, at, marking, ty, i);
+        let c = start_cell(file, at, t, i);
         memory[c] = x;
         i = i + 1;
     }

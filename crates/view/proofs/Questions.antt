@@ -1,5 +1,5 @@
 -- The five questions of the view: a row of each section. Assumes nothing.
-use Rattle.view.specs.Rows.{TypeAsked, HomeAsked, ExprAsked, CommandAsked, ValueAsked, typeRow, homeRow, exprRow, commandRow, valueRow}
+use Rattle.view.specs.Rows.{TypeAsked, HomeAsked, ExprAsked, CommandAsked, StartAsked, typeRow, homeRow, exprRow, commandRow, startRow}
 use Rattle.view.proofs.TypeRow as Type-
 use Rattle.view.proofs.TypeRow.Laws as Type-Laws
 use Rattle.view.proofs.HomeRow as Home
@@ -8,8 +8,8 @@ use Rattle.view.proofs.ExprRow as Expr
 use Rattle.view.proofs.ExprRow.Laws as Expr-Laws
 use Rattle.view.proofs.CommandRow as Command
 use Rattle.view.proofs.CommandRow.Laws as Command-Laws
-use Rattle.view.proofs.ValueRow as Value
-use Rattle.view.proofs.ValueRow.Laws as Value-Laws
+use Rattle.view.proofs.StartRow as Value
+use Rattle.view.proofs.StartRow.Laws as Value-Laws
 use Rattle.view.proofs.Question.{Question}
 
 abbrev pub of-type : Question
@@ -25,4 +25,4 @@ abbrev pub of-command : Question
 of-command = record { R = Command.the-type; laws = Command-Laws.the-laws; Asked = CommandAsked; answer = commandRow }
 
 abbrev pub of-value : Question
-of-value = record { R = Value.the-type; laws = Value-Laws.the-laws; Asked = ValueAsked; answer = valueRow }
+of-value = record { R = Value.the-type; laws = Value-Laws.the-laws; Asked = StartAsked; answer = startRow }

@@ -19,8 +19,8 @@ use Rattle.laws.specs.Known.{values-good}
 use Rattle.view.specs.declared.ExprRow.{ExprRow}
 use Rattle.view.specs.declared.CommandRow.{CommandRow}
 use Rattle.view.specs.declared.HomeRow.{HomeRow}
-use Rattle.view.specs.declared.ValueRow.{ValueRow}
-use Rattle.view.specs.Rows.{homePlace, homeRow, exprRow, commandRow, valueRow, HomeAsked, TypeAsked}
+use Rattle.view.specs.declared.StartRow.{StartRow}
+use Rattle.view.specs.Rows.{homePlace, homeRow, exprRow, commandRow, startRow, HomeAsked, TypeAsked}
 
 -- ---- a row's meaning
 
@@ -114,24 +114,24 @@ module _ (s : List ℕ) (at : Starts) (known : WellRead s at) where
 
 -- A start row names a home, and a cell of it.
 pub record ValueNames (s : List ℕ) (at : Starts) (i : ℕ) : Type 0 where
-  pub first : 1 ≤ valueRow s at i .home
-  pub last : valueRow s at i .home ≤ half s (at .homes)
-  pub cell : valueRow s at i .cell < half s (homePlace at (valueRow s at i .home) + 2)
+  pub first : 1 ≤ startRow s at i .home
+  pub last : startRow s at i .home ≤ half s (at .homes)
+  pub cell : startRow s at i .cell < half s (homePlace at (startRow s at i .home) + 2)
 
 pub value-in-range : {s : List ℕ} {at : Starts} → WellRead s at → (i : ℕ) → i < half s (at .values) → ValueNames s at i
 unfolding rowGood
 value-in-range {s} {at} known i l =
-    let g = valueRow s at i .home in
+    let g = startRow s at i .home in
     let (a, b) = parts-true (inRange 1 g (half s (at .homes))) _ (values-good (known .values) i l) in
     let (low, high) = in-range 1 g (half s (at .homes)) a in
-    let e : at .homes + 4 * valueRow s at i .home ≡ homePlace at (valueRow s at i .home) + 2 = omega (arith, low) in
+    let e : at .homes + 4 * startRow s at i .home ≡ homePlace at (startRow s at i .home) + 2 = omega (arith, low) in
     record { first = low; last = high; cell = rw (← e) (ltb-true _ _ b) }
 
 -- So the home of a start row has a row, and so has the type of any home.
-pub value-home : {s : List ℕ} {at : Starts} {i : ℕ} {row : ValueRow} → WellRead s at → i < half s (at .values) → row ≡ valueRow s at i → HomeAsked s at (row .home)
+pub value-home : {s : List ℕ} {at : Starts} {i : ℕ} {row : StartRow} → WellRead s at → i < half s (at .values) → row ≡ startRow s at i → HomeAsked s at (row .home)
 value-home {i = i} known l is =
     let names = value-in-range known i l in
-    rw (ap (λ (x : ValueRow). x .home) is) (record { file = known; first = names .first; row = names .last })
+    rw (ap (λ (x : StartRow). x .home) is) (record { file = known; first = names .first; row = names .last })
 
 pub home-type-asked : {s : List ℕ} {at : Starts} {g : ℕ} {row : HomeRow} → HomeAsked s at g → row ≡ homeRow s at g → TypeAsked s at (row .ty)
 home-type-asked {s} {at} {g} asked is =

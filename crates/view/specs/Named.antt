@@ -7,7 +7,7 @@ use lib.Dec.{ltb}
 use borrow.Author.Tests.{leb-true, ltb-true}
 use Rattle.rules.specs.declared.Starts.{Starts}
 use Rattle.rules.specs.Basic.{half}
-use Rattle.rules.specs.Table.{Operator, Expr, Command, routine, literal, home, cast, null, sum, read, op, skip, seq, store, ifElse, while}
+use Rattle.rules.specs.Table.{Operator, Expr, Command, routine, literal, home, cast, null, sum, read, op, skip, then, store, ifElse, while}
 use Rattle.rules.specs.Reading.{exprGood, commandGood}
 use Rattle.rules.specs.Tests.{false-true, parts-true, both-less, in-range}
 use Rattle.laws.specs.WellRead.{WellRead}
@@ -36,14 +36,14 @@ expr-names-good T H e Expr.none h = false-true h
 -- Command row c of a file with E expressions.
 pub data CommandNames (E c : ℕ) : Command → Type 0 where
   of-skip : CommandNames E c skip
-  of-seq : {a b : ℕ} → a < c → b < c → CommandNames E c (seq a b)
+  of-then : {a b : ℕ} → a < c → b < c → CommandNames E c (then a b)
   of-store : {a b : ℕ} → a < E → b < E → CommandNames E c (store a b)
   of-if : {a b d : ℕ} → a < E → b < c → d < c → CommandNames E c (ifElse a b d)
   of-while : {a b : ℕ} → a < E → b < c → CommandNames E c (while a b)
 
 command-names-good : (E c : ℕ) (x : Command) → commandGood E c x ≡ true → CommandNames E c x
 command-names-good E c skip h = of-skip
-command-names-good E c (seq a b) h = let (p, q) = both-less a b c c h in of-seq p q
+command-names-good E c (then a b) h = let (p, q) = both-less a b c c h in of-then p q
 command-names-good E c (store a b) h = let (p, q) = both-less a b E E h in of-store p q
 command-names-good E c (ifElse a b d) h =
     let (p, q) = parts-true (ltb a E) _ h in

@@ -6,7 +6,7 @@ ghost use Prim.Native.Nat.{_+_, _≤_, _<_};
 ghost use lib.ListN.{length};
 ghost use Rattle.rules.specs.Basic.{half, word};
 ghost use Rattle.laws.specs.WellRead.{WellRead};
-ghost use Rattle.view.specs.Rows.{typeRow, homeRow, exprRow, commandRow, valueRow, countsOf, TypeAsked, HomeAsked, ExprAsked, CommandAsked, ValueAsked};
+ghost use Rattle.view.specs.Rows.{typeRow, homeRow, exprRow, commandRow, startRow, countsOf, TypeAsked, HomeAsked, ExprAsked, CommandAsked, StartAsked};
 
 // A type row: the type that a reference of this type points to.
 pub struct TypeRow {
@@ -35,13 +35,13 @@ pub struct CommandRow {
 }
 
 // A start row: a cell of a home, and the number that it starts as.
-pub struct ValueRow {
+pub struct StartRow {
     pub home: u16,
     pub cell: u16,
     pub value: u32,
 }
 
-// How many rows each section has, but for the start values (`value_count`).
+// How many rows each section has, but for the start values (`start_count`).
 pub struct Counts {
     pub types: u16,
     pub homes: u16,
@@ -131,12 +131,12 @@ fn command_at(s: &[u8], at: Starts, c: usize) -> CommandRow
 }
 
 // Start row `i`.
-fn value_at(s: &[u8], at: Starts, i: usize) -> ValueRow
-    requires { ⌜ ValueAsked (now s) at i ⌝ }
-    ensures { λ r. ⌜ r ≡ valueRow (now (s .entry)) at i ⌝ }
+fn start_at(s: &[u8], at: Starts, i: usize) -> StartRow
+    requires { ⌜ StartAsked (now s) at i ⌝ }
+    ensures { λ r. ⌜ r ≡ startRow (now (s .entry)) at i ⌝ }
 {
     let q = at.values as usize + 2 + 8 * i;
-    ValueRow {
+    StartRow {
         home: half_at(s, q),
         cell: half_at(s, q + 2),
         value: word_at(s, q + 4),
@@ -161,7 +161,7 @@ pub fn row_counts(file: &[u8], at: Starts) -> Counts
 }
 
 // How many start rows there are: none where the file stops after the commands.
-pub fn value_count(file: &[u8], at: Starts) -> u16
+pub fn start_count(file: &[u8], at: Starts) -> u16
     requires { ⌜ WellRead (now file) at ⌝ }
     ensures { λ r. ⌜ r ≡ half (now (file .entry)) (at .values) ⌝ }
 {
@@ -214,11 +214,11 @@ pub fn ask_command<'a>(v: View<'a>, c: usize) -> CommandRow
 }
 
 // Start row `i` of the view's file.
-pub fn ask_value<'a>(v: View<'a>, i: usize) -> ValueRow
-    requires { ⌜ ValueAsked (now (v .bytes)) (v .at) i ⌝ }
-    ensures { λ r. ⌜ r ≡ valueRow (now (v .entry .bytes)) (v .entry .at) i ⌝ }
+pub fn ask_start<'a>(v: View<'a>, i: usize) -> StartRow
+    requires { ⌜ StartAsked (now (v .bytes)) (v .at) i ⌝ }
+    ensures { λ r. ⌜ r ≡ startRow (now (v .entry .bytes)) (v .entry .at) i ⌝ }
 {
-    value_at(v.bytes, v.at, i)
+    start_at(v.bytes, v.at, i)
 }
 
 // ---- the same questions with plain parameters
@@ -256,9 +256,9 @@ pub fn command_row(file: &[u8], at: Starts, c: usize) -> CommandRow
 }
 
 // Start row `i` of a file that was read.
-pub fn value_row(file: &[u8], at: Starts, i: usize) -> ValueRow
-    requires { ⌜ ValueAsked (now file) at i ⌝ }
-    ensures { λ r. ⌜ r ≡ valueRow (now (file .entry)) at i ⌝ }
+pub fn start_row(file: &[u8], at: Starts, i: usize) -> StartRow
+    requires { ⌜ StartAsked (now file) at i ⌝ }
+    ensures { λ r. ⌜ r ≡ startRow (now (file .entry)) at i ⌝ }
 {
-    ask_value(view_of(file, at), i)
+    ask_start(view_of(file, at), i)
 }

@@ -16,9 +16,9 @@ use Rattle.evaluate.proofs.leaf.Reads as leaf-reads
 use Rattle.evaluate.proofs.on.Reads as on-reads
 use Rattle.evaluate.proofs.one.Reads as one-reads
 use Rattle.evaluate.proofs.two.Reads as two-reads
-use Rattle.table.proofs.a_of.Reads as a-of-reads
-use Rattle.table.proofs.high.Reads as high-reads
-use Rattle.table.proofs.op_of.Reads as op-of-reads
+use Rattle.words.proofs.a_of.Reads as a-of-reads
+use Rattle.words.proofs.high.Reads as high-reads
+use Rattle.words.proofs.op_of.Reads as op-of-reads
 use Rattle.evaluate.proofs.+compound+operand.{statement}
 use Rattle.evaluate.proofs.+compound+operand.Tie.{close}
 

@@ -1,6 +1,6 @@
 -- By the case of what was found; an address found lies in the memory, and its cell names a home of the table.
 use denote.Ref.{now}
-use Rattle.cells.proofs.Laws.{named-as}
+use Rattle.values.proofs.Laws.{named-as}
 use native.Mathlib.Omega.{arith}
 use Rattle.evaluate.proofs.Answers.{load-int-is, load-int-fails}
 use borrow.Author.Needs.{needs}

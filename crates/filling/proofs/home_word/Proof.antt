@@ -3,7 +3,7 @@ use Rattle.view.specs.Rows.{homeRow}
 use denote.Ref.{now}
 use mathlib.Core.Path.{ap}
 use Rattle.view.specs.declared.HomeRow.{HomeRow}
-use Rattle.table.specs.Words.{homeOp}
+use Rattle.words.specs.Words.{homeOp}
 use Rattle.filling.proofs.Numbers.{field-safe, field-else}
 use Rattle.filling.proofs.Words.{op-kind, second-is, kind-moves, kinded-moves}
 use borrow.Author.Needs.{needs}

@@ -1,6 +1,6 @@
 -- The operation is that of the type's kind.
 use denote.Ref.{now}
-use Rattle.table.specs.Words.{nullOp}
+use Rattle.words.specs.Words.{nullOp}
 use Rattle.filling.proofs.Words.{op-kind}
 use borrow.Author.Needs.{needs}
 use Rattle.filling.proofs.null_word.Statement.{statement}

@@ -3,7 +3,7 @@ use Rattle.view.specs.Rows.{typeRow}
 use denote.Ref.{now}
 use mathlib.Core.Path.{ap}
 use Rattle.view.specs.declared.TypeRow.{TypeRow}
-use Rattle.table.specs.Words.{readOp}
+use Rattle.words.specs.Words.{readOp}
 use Rattle.filling.proofs.Words.{op-kinds, kind-moves, kinded-moves}
 use borrow.Author.Needs.{needs}
 use Rattle.filling.proofs.read_word.Statement.{statement}

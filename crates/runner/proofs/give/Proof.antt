@@ -13,26 +13,26 @@ Inv-loop file at marking ty t memory₀ n i₀ memory i = GivenSoFar file at mar
 abbrev μ-loop : tie.MeasureT-loop
 μ-loop file at marking ty t memory₀ n i₀ memory i = n - i
 
-value-count-requires : tie.Need-value-count-requires Inv-loop μ-loop
-value-count-requires c κs = known (c .before .before .before .pre .0)
+start-count-requires : tie.Need-start-count-requires Inv-loop μ-loop
+start-count-requires c κs = known (c .before .before .before .pre .0)
 
 cast-n : tie.Need-cast-n Inv-loop μ-loop
 cast-n c = search needs
 
 loop-holds : tie.Need-loop-holds Inv-loop μ-loop
-loop-holds c = given-none (c .before .before .before .before .args .file .now) (c .before .before .before .before .args .at) (c .before .before .before .before .args .marking .now) _ _ (c .value-count .ensures)
+loop-holds c = given-none (c .before .before .before .before .args .file .now) (c .before .before .before .before .args .at) (c .before .before .before .before .args .marking .now) _ _ (c .start-count .ensures)
 
-value-entry-requires : tie.Need-value-entry-requires Inv-loop μ-loop
-value-entry-requires c κs = (c .before .before .before .before .before .before .pre .0, omega (arith, c .loop-test .taken, c .before .loop .inv .count))
+start-entry-requires : tie.Need-start-entry-requires Inv-loop μ-loop
+start-entry-requires c κs = (c .before .before .before .before .before .before .pre .0, omega (arith, c .loop-test .taken, c .before .loop .inv .count))
 
-value-cell-requires : tie.Need-value-cell-requires Inv-loop μ-loop
-value-cell-requires c κs = (known (c .before .before .before .before .before .before .before .pre .0), well (c .before .before .before .before .before .before .before .pre .0), c .before .before .before .before .before .before .before .pre .1, omega (arith, c .before .loop-test .taken, c .before .before .loop .inv .count))
+start-cell-requires : tie.Need-start-cell-requires Inv-loop μ-loop
+start-cell-requires c κs = (known (c .before .before .before .before .before .before .before .pre .0), well (c .before .before .before .before .before .before .before .pre .0), c .before .before .before .before .before .before .before .pre .1, omega (arith, c .before .loop-test .taken, c .before .before .loop .inv .count))
 
 mul-memory : tie.Need-mul-memory Inv-loop μ-loop
-mul-memory c = omega (arith, given-near (c .before .before .before .loop .inv) (c .before .before .loop-test .taken) (c .value-cell .ensures) (well (c .before .before .before .before .before .before .before .before .pre .0)))
+mul-memory c = omega (arith, given-near (c .before .before .before .loop .inv) (c .before .before .loop-test .taken) (c .start-cell .ensures) (well (c .before .before .before .before .before .before .before .before .pre .0)))
 
 slice-write-memory : tie.Need-slice-write-memory Inv-loop μ-loop
-slice-write-memory c = given-room (c .before .before .before .loop .inv) (c .before .before .loop-test .taken) (c .value-cell .ensures) (well (c .before .before .before .before .before .before .before .before .pre .0)) (c .before .before .before .before .before .before .before .before .pre .2)
+slice-write-memory c = given-room (c .before .before .before .loop .inv) (c .before .before .loop-test .taken) (c .start-cell .ensures) (well (c .before .before .before .before .before .before .before .before .pre .0)) (c .before .before .before .before .before .before .before .before .pre .2)
 
 add-i : tie.Need-add-i Inv-loop μ-loop
 add-i c = omega arith
@@ -41,7 +41,7 @@ loop-less : tie.Need-loop-less Inv-loop μ-loop
 loop-less c = omega arith
 
 loop-again : tie.Need-loop-again Inv-loop μ-loop
-loop-again c = given-next (c .before .before .before .loop .inv) (c .before .before .loop-test .taken) (c .value-cell .ensures) (c .before .value-entry .ensures)
+loop-again c = given-next (c .before .before .before .loop .inv) (c .before .before .loop-test .taken) (c .start-cell .ensures) (c .before .start-entry .ensures)
 
 same-length : tie.Need-same-length Inv-loop μ-loop
 same-length c = c .before .loop .inv .long
@@ -55,11 +55,11 @@ give-spec =
     (tie.spec
     Inv-loop
     μ-loop
-    value-count-requires
+    start-count-requires
     cast-n
     loop-holds
-    value-entry-requires
-    value-cell-requires
+    start-entry-requires
+    start-cell-requires
     mul-memory
     slice-write-memory
     add-i

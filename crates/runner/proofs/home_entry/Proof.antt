@@ -18,13 +18,13 @@ kind-of-requires c κs = search needs
 kind-of-requires-2 : tie.Need-kind-of-requires-2
 kind-of-requires-2 c κs = kinded-moves (now (c .before .before .before .before .args .marking)) (ap (λ (x : TypeRow). x .target) (c .before .type-row .ensures)) (c .before .before .before .before .pre .0 .target)
 
-start-entry-requires : tie.Need-start-entry-requires
-start-entry-requires c κs = ref-number (now (c .before .before .before .before .before .args .marking)) (c .before .before .before .before .before .args .p) _ (c .before .before .before .before .before .pre .1) (c .before .kind-of .ensures)
+fresh-entry-requires : tie.Need-fresh-entry-requires
+fresh-entry-requires c κs = ref-number (now (c .before .before .before .before .before .args .marking)) (c .before .before .before .before .before .args .p) _ (c .before .before .before .before .before .pre .1) (c .before .kind-of .ensures)
 
 returns : tie.Need-returns
-returns c = entry-kinds _ (c .before .before .kind-of .result) (c .before .kind-of2 .result) (c .before .before .before .before .before .before .args .p) (typeRow (now (c .before .before .before .before .before .before .args .file)) (c .before .before .before .before .before .before .args .at) (c .before .before .before .before .before .before .args .p) .target) (now (c .before .before .before .before .before .before .args .marking)) (c .start-entry .ensures) (c .before .before .kind-of .ensures) (kind-moves (now (c .before .before .before .before .before .before .args .marking)) (c .before .kind-of2 .result) (ap (λ (x : TypeRow). x .target) (c .before .before .before .type-row .ensures)) (c .before .kind-of2 .ensures))
+returns c = entry-kinds _ (c .before .before .kind-of .result) (c .before .kind-of2 .result) (c .before .before .before .before .before .before .args .p) (typeRow (now (c .before .before .before .before .before .before .args .file)) (c .before .before .before .before .before .before .args .at) (c .before .before .before .before .before .before .args .p) .target) (now (c .before .before .before .before .before .before .args .marking)) (c .fresh-entry .ensures) (c .before .before .kind-of .ensures) (kind-moves (now (c .before .before .before .before .before .before .args .marking)) (c .before .kind-of2 .result) (ap (λ (x : TypeRow). x .target) (c .before .before .before .type-row .ensures)) (c .before .kind-of2 .ensures))
 
 pub home-entry-spec : {M : Type 1} → statement M
 home-entry-spec =
     tie.close
-    (tie.spec type-row-requires kind-of-requires kind-of-requires-2 start-entry-requires returns)
+    (tie.spec type-row-requires kind-of-requires kind-of-requires-2 fresh-entry-requires returns)

@@ -1,16 +1,37 @@
--- By the kinds' numbers.
-use Rattle.runner.proofs.Parts.{entry-plain, entry-pair, entry-wild}
+-- `start_entry` meets its contract: the row names a home of the file, whose type's kind decides. Assumes nothing.
+use Rattle.runner.proofs.Given.{start-entry-is}
+use Rattle.filling.proofs.Words.{known, kinded}
+use Rattle.view.specs.Means.{value-home, home-type-asked}
+use Rattle.view.specs.Rows.{value-asked}
+use borrow.Author.Needs.{needs}
 use Rattle.runner.proofs.start_entry.Statement.{statement}
 use Rattle.runner.proofs.start_entry.Tie as tie
 
+start-row-requires : tie.Need-start-row-requires
+start-row-requires c κs = value-asked (known (c .before .before .pre .0)) _ (c .before .before .pre .1)
+
+cast-home-row : tie.Need-cast-home-row
+cast-home-row c = search needs
+
+home-row-requires : tie.Need-home-row-requires
+home-row-requires c κs = value-home (known (c .before .before .before .before .pre .0)) (c .before .before .before .before .pre .1) (c .before .start-row .ensures)
+
+kind-of-requires : tie.Need-kind-of-requires
+kind-of-requires c κs = kinded (c .before .before .before .before .before .pre .0) _ (home-type-asked (value-home (known (c .before .before .before .before .before .pre .0)) (c .before .before .before .before .before .pre .1) (c .before .before .start-row .ensures)) (c .home-row .ensures) .row)
+
+given-entry-requires : tie.Need-given-entry-requires
+given-entry-requires c κs = search needs
+
 returns : tie.Need-returns
-returns c = entry-plain _ _ (c .before .before .pre) (c .before .if1 .taken) (c .if2 .taken)
-
-returns-2 : tie.Need-returns-2
-returns-2 c = entry-pair _ _ (c .before .before .pre) (c .before .if1 .taken) (c .if2 .left)
-
-returns-3 : tie.Need-returns-3
-returns-3 c = entry-wild _ (c .before .args .target) (c .if1 .left)
+returns c = start-entry-is (known (c .before .before .before .before .before .before .before .pre .0)) (c .before .before .before .before .before .before .before .pre .1) (c .before .before .before .before .start-row .ensures) (c .before .before .before .before .before .before .before .args .marking .now) (c .before .kind-of .result) (c .before .before .home-row .ensures) (c .before .kind-of .ensures) (c .given-entry .ensures)
 
 pub start-entry-spec : {M : Type 1} → statement M
-start-entry-spec = tie.close (tie.spec returns returns-2 returns-3)
+start-entry-spec =
+    tie.close
+    (tie.spec
+    start-row-requires
+    cast-home-row
+    home-row-requires
+    kind-of-requires
+    given-entry-requires
+    returns)

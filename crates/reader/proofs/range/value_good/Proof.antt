@@ -1,7 +1,7 @@
 -- `range::value_good` meets its contract: the home is none of the file's, or the cell is held to the size in its row. Assumes nothing.
 use native.Mathlib.Omega.{arith}
 use borrow.Author.Tests.{not-true, not-false}
-use Rattle.reader.proofs.InRange.{value-no-home, home-there, value-row}
+use Rattle.reader.proofs.InRange.{value-no-home, home-there, start-row}
 use borrow.Author.Needs.{needs}
 use Rattle.reader.proofs.range.value_good.Statement.{statement}
 use Rattle.reader.proofs.range.value_good.Tie as tie
@@ -34,7 +34,7 @@ half-at-requires-4 : tie.Need-half-at-requires-4
 half-at-requires-4 c κs = omega (arith, home-there (c .before .before .before .before .before .before .args .s .now) (c .before .before .before .before .before .before .args .q) (c .before .before .before .before .before .before .args .h) (c .before .before .before .before .half-at .ensures .0) (c .before .before .before .half-at2 .ensures .0) (c .before .before .in-range .ensures) (not-false _ (c .before .if1 .left)), c .before .before .before .half-at2 .ensures .0, c .before .before .before .before .before .before .pre .1)
 
 returns-2 : tie.Need-returns-2
-returns-2 c = value-row (c .before .before .before .before .before .before .before .args .s .now) (c .before .before .before .before .before .before .before .args .q) (c .before .before .before .before .before .before .before .args .h) (c .before .before .before .before .before .half-at .ensures .0) (c .before .before .before .before .half-at2 .ensures .0) (c .before .before .before .in-range .ensures) (not-false _ (c .before .before .if1 .left)) (c .before .half-at3 .ensures .0) (c .half-at4 .ensures .0)
+returns-2 c = start-row (c .before .before .before .before .before .before .before .args .s .now) (c .before .before .before .before .before .before .before .args .q) (c .before .before .before .before .before .before .before .args .h) (c .before .before .before .before .before .half-at .ensures .0) (c .before .before .before .before .half-at2 .ensures .0) (c .before .before .before .in-range .ensures) (not-false _ (c .before .before .if1 .left)) (c .before .half-at3 .ensures .0) (c .half-at4 .ensures .0)
 
 pub value-good-spec : {M : Type 1} → statement M
 value-good-spec =

@@ -9,28 +9,28 @@ use Rattle.reader.proofs.shape.row_rises.Tie as tie
 returns : tie.Need-returns
 returns c = search needs
 
-sub-value-row : tie.Need-sub-value-row
-sub-value-row c = search needs
+sub-start-row : tie.Need-sub-start-row
+sub-start-row c = search needs
 
-value-row-requires : tie.Need-value-row-requires
-value-row-requires c κs = value-asked (c .before .before .pre .0) _ (omega (arith, c .before .before .pre .1))
+start-row-requires : tie.Need-start-row-requires
+start-row-requires c κs = value-asked (c .before .before .pre .0) _ (omega (arith, c .before .before .pre .1))
 
-value-row-requires-2 : tie.Need-value-row-requires-2
-value-row-requires-2 c κs = value-asked (c .before .before .before .pre .0) _ (c .before .before .before .pre .1)
+start-row-requires-2 : tie.Need-start-row-requires-2
+start-row-requires-2 c κs = value-asked (c .before .before .before .pre .0) _ (c .before .before .before .pre .1)
 
 before-requires : tie.Need-before-requires
 before-requires c κs = search needs
 
 returns-2 : tie.Need-returns-2
-returns-2 c = next-rises (c .before .before .before .before .before .args .file .now) (c .before .before .before .before .before .args .at) (c .before .before .before .before .before .args .i) (c .before .before .before .if1 .left) (c .before .before .value-row .ensures) (c .before .value-row2 .ensures) (c .before2 .ensures)
+returns-2 c = next-rises (c .before .before .before .before .before .args .file .now) (c .before .before .before .before .before .args .at) (c .before .before .before .before .before .args .i) (c .before .before .before .if1 .left) (c .before .before .start-row .ensures) (c .before .start-row2 .ensures) (c .before2 .ensures)
 
 pub row-rises-spec : {M : Type 1} → statement M
 row-rises-spec =
     tie.close
     (tie.spec
     returns
-    sub-value-row
-    value-row-requires
-    value-row-requires-2
+    sub-start-row
+    start-row-requires
+    start-row-requires-2
     before-requires
     returns-2)
