@@ -17,7 +17,7 @@ use Rattle.rules.specs.Shape.{typeOf}
 use Rattle.rules.specs.Kinds.{kinds}
 use Rattle.rules.specs.Calls.{formed, judged, checking, readSays}
 use Rattle.rules.specs.Tested.{refused-fine}
-use Rattle.laws.specs.Promises.{Bytes}
+use Rattle.rules.specs.Basic.{Bytes}
 use Rattle.laws.specs.Read.{formed-fine, judged-fine}
 use Rattle.rules.specs.Tests.{fine-same}
 use Rattle.laws.specs.Known.{formed-known, formed-reading}

@@ -1,6 +1,6 @@
 // Expression rows, run from the table.
-use values::Found;
 use rules::Value;
+use values::Found;
 use words::a_of;
 use words::high;
 use words::op_of;

@@ -13,7 +13,7 @@ use Rattle.rules.specs.Memory.{State}
 use Rattle.rules.specs.Values.{truth}
 use Rattle.rules.specs.Run.{got, Ran as Runs, done, halted, turns, eval, exec}
 use Rattle.rules.specs.Valid.{ValidState}
-use Rattle.laws.specs.Promises.{leftAfter}
+use Rattle.rules.specs.Ends.{leftAfter}
 use Rattle.laws.specs.Forget.{value, rule, entry, ended, turn-answer}
 use Rattle.laws.specs.Units.{leftOf, eval-spends, exec-spends}
 use Rattle.words.specs.Words.{firstFor, secondFor, state}

@@ -23,7 +23,7 @@ use Rattle.rules.specs.Values.{truth, reach, kept}
 use Rattle.rules.specs.Run.{noRule, failed, got, Ran as Runs, done, halted, enter, turns, eval, commandRow, exec}
 use Rattle.rules.specs.Calls.{stateOf}
 use Rattle.rules.specs.Valid.{ValidState}
-use Rattle.laws.specs.Promises.{Ends, atStop}
+use Rattle.rules.specs.Ends.{Ends, atStop}
 use Rattle.laws.specs.Forget.{value, rule, ended, enter-answer, store-answer, then-answer, if-answer}
 use Rattle.laws.specs.Depth.{exec-row}
 use Rattle.laws.specs.Formed.{CommandFits}

@@ -1,9 +1,9 @@
 // Command rows, run from the table.
-use values::Entry;
-use values::Found;
 use evaluate::Answer;
 use evaluate::Stop;
 use evaluate::eval;
+use values::Entry;
+use values::Found;
 use words::a_of;
 use words::b_of;
 use words::c_of;

@@ -10,7 +10,7 @@ use Rattle.rules.specs.Shape.{typeOf}
 use Rattle.rules.specs.declared.Kind.{Kind}
 use Rattle.rules.specs.declared.Kind.the-variants.{int, SAFE, SEQ, DYNAMIC}
 use Rattle.rules.specs.Calls.{judged}
-use Rattle.laws.specs.Promises.{Bytes}
+use Rattle.rules.specs.Basic.{Bytes}
 use Rattle.words.specs.Words.{startIn, Homes, ExprWord, CommandWord}
 use Rattle.laws.specs.WellRead.{WellRead}
 use Rattle.view.specs.Rows.{typeRow, homeRow, TypeAsked, HomeAsked}

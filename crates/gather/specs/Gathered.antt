@@ -8,7 +8,7 @@ use lib.ListN.{length}
 use Rattle.rules.specs.Table.{Expr, Command, Routine, literal, home, cast, null, sum, read, op, skip, then, store, ifElse, while}
 use Rattle.rules.specs.Shape.{typeOf}
 use Rattle.rules.specs.Kinds.{converts, Acceptable}
-use Rattle.laws.specs.Convert.{byteOf}
+use Rattle.rules.specs.Graph.{byteOf}
 use Rattle.raise.specs.Marks.{at, Below}
 use Rattle.raise.specs.Demands.{Ref, Lists}
 

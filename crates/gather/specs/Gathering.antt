@@ -11,7 +11,8 @@ use Rattle.rules.specs.Table.{Expr, Command, Routine, literal, home, cast, null
 use Rattle.rules.specs.Shape.{typeOf}
 use Rattle.rules.specs.Kinds.{kindOf, kind, notSafe, converts, Acceptable}
 use Rattle.rules.specs.Tests.{false-true}
-use Rattle.laws.specs.Convert.{byteOf, from-int}
+use Rattle.rules.specs.Graph.{byteOf}
+use Rattle.laws.specs.Convert.{from-int}
 use Rattle.raise.specs.Marks.{at, zeros, Below, kept, Raised}
 use Rattle.raise.specs.Demands.{Lists}
 use Rattle.gather.specs.Gathered.{Listed, ExprListed, CommandListed, Targets, Follows, Gathered}

@@ -9,7 +9,7 @@ use native.Mathlib.Omega.{arith}
 use mathlib.Core.List.{List, [], _∷_, _++_}
 use lib.ListN.{length, set, length-set, take, length-append, List·getD-append}
 use lib.Seq.{take-suc-set, length-take-le, getD-at}
-use Rattle.laws.specs.Convert.{byteOf}
+use Rattle.rules.specs.Graph.{byteOf}
 use Rattle.raise.specs.Marks.{at, Below, below-same, kept, Raised}
 use Rattle.raise.specs.Demands.{Ref, Lists}
 use Rattle.gather.specs.Gathered.{Listed}

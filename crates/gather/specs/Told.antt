@@ -8,7 +8,7 @@ use Rattle.rules.specs.declared.ReadAnswer.{ReadAnswer}
 use Rattle.rules.specs.declared.ReadAnswer.the-variants as reads
 use Rattle.rules.specs.Basic.{fine}
 use Rattle.rules.specs.Calls.{formed, readSays, refusal}
-use Rattle.laws.specs.Promises.{Bytes}
+use Rattle.rules.specs.Basic.{Bytes}
 use Rattle.laws.specs.Read.{formed-fine}
 use Rattle.laws.specs.Known.{formed-reading, formed-known}
 use Rattle.reader.specs.Tables.{ReadTyped}

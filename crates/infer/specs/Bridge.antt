@@ -13,11 +13,12 @@ use Rattle.rules.specs.Shape.{typeOf}
 use Rattle.rules.specs.declared.Kind.the-variants.{int}
 use Rattle.rules.specs.Kinds.{kindOf, kind, sameKind, deep, same, sameBelow, converts, spreads, notSafe, exprKind, commandKind, Acceptable}
 use Rattle.rules.specs.Least.{Least}
-use Rattle.laws.specs.Convert.{Conv, conv-of, of-conv, Spread, byteOf, any-to-int, int-from}
+use Rattle.rules.specs.Graph.{byteOf}
+use Rattle.laws.specs.Convert.{Conv, conv-of, of-conv, Spread, any-to-int, int-from}
 use Rattle.laws.specs.Values.{target-le}
 use Rattle.laws.specs.Formed.{Formed}
 use Rattle.laws.specs.Dynamic.{all-acceptable}
-use Rattle.laws.specs.Least.{spreads-two, two-spreads, spreads-int}
+use Rattle.laws.specs.Convert.{spreads-two, two-spreads, spreads-int}
 use Rattle.raise.specs.Marks.{at, Below, kept}
 use Rattle.raise.specs.Demands.{Ref}
 use Rattle.links.specs.Plain.{plain}

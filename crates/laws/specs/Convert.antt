@@ -9,13 +9,9 @@ use lib.ListN.{getD}
 use Rattle.rules.specs.Basic.{choose}
 use Rattle.rules.specs.Table.{Routine}
 use Rattle.rules.specs.declared.Kind.the-variants.{int}
-use Rattle.rules.specs.Kinds.{kindOf, kindConverts, targetsMatter, same, converts}
+use Rattle.rules.specs.Kinds.{kindOf, kindConverts, targetsMatter, same, converts, spreads}
+use Rattle.rules.specs.Graph.{byteOf}
 use Rattle.rules.specs.Tests.{false-true}
-
--- The byte of type t; int has 0.
-abbrev pub byteOf : List ℕ → ℕ → ℕ
-byteOf m zero = 0
-byteOf m (suc t) = getD m t 0
 
 -- What a conversion of reference s to reference t says.
 pub record Conv (r : Routine) (m : List ℕ) (s t : ℕ) : Type 0 where
@@ -86,3 +82,32 @@ int-from (suc (suc b)) x h = refl
 -- DYNAMIC goes down to the target.
 abbrev pub Spread : Routine → List ℕ → Type 0
 Spread r m = (t : ℕ) → 2 ≤ getD m t 0 → (i : ℕ) → r .target (suc t) ≡ suc i → 2 ≤ getD m i 0
+
+pub spreads-two : (a b : ℕ) → spreads (kindOf a) (kindOf b) ≡ true → 2 ≤ a → 2 ≤ b
+spreads-two zero b h i = absurd (omega arith)
+spreads-two (suc zero) b h i = absurd (omega arith)
+spreads-two (suc (suc a)) zero h i = false-true h
+spreads-two (suc (suc a)) (suc zero) h i = false-true h
+spreads-two (suc (suc a)) (suc (suc b)) h i = omega arith
+
+pub two-spreads : (a b : ℕ) → (2 ≤ a → 2 ≤ b) → spreads (kindOf a) (kindOf b) ≡ true
+two-spreads zero b h = refl
+two-spreads (suc zero) b h = refl
+two-spreads (suc (suc a)) zero h = absurd (omega (arith, h (omega arith)))
+two-spreads (suc (suc a)) (suc zero) h = absurd (omega (arith, h (omega arith)))
+two-spreads (suc (suc a)) (suc (suc b)) h = refl
+
+pub spreads-int : (a : ℕ) → spreads (kindOf a) int ≡ true
+spreads-int zero = refl
+spreads-int (suc zero) = refl
+spreads-int (suc (suc a)) = refl
+
+-- Bytes that are SEQ, or DYNAMIC, together are of one kind.
+pub kinds-equal : (k l : ℕ) → (1 ≤ k → 1 ≤ l) → (1 ≤ l → 1 ≤ k) → (2 ≤ k → 2 ≤ l) → (2 ≤ l → 2 ≤ k) → kindOf k ≡ kindOf l
+kinds-equal zero zero a b c d = refl
+kinds-equal zero (suc l) a b c d = absurd (omega (arith, b (suc-le-suc zero-le)))
+kinds-equal (suc k) zero a b c d = absurd (omega (arith, a (suc-le-suc zero-le)))
+kinds-equal (suc zero) (suc zero) a b c d = refl
+kinds-equal (suc zero) (suc (suc l)) a b c d = absurd (omega (arith, d (omega arith)))
+kinds-equal (suc (suc k)) (suc zero) a b c d = absurd (omega (arith, c (omega arith)))
+kinds-equal (suc (suc k)) (suc (suc l)) a b c d = refl

@@ -18,7 +18,7 @@ use Rattle.rules.specs.Valid.{Real}
 use Rattle.rules.specs.Calls.{formed, judged}
 use Rattle.rules.specs.Tests.{fine-same, false-true, parts-true, by-test, in-range, both-less}
 use Rattle.rules.specs.Tested.{kinds-acceptable, acceptable-kinds}
-use Rattle.laws.specs.Promises.{Bytes}
+use Rattle.rules.specs.Basic.{Bytes}
 use Rattle.laws.specs.WellRead.{WellRead}
 use Rattle.laws.specs.Known.{unrefused, values-good, formed-known, formed-shaped}
 use Rattle.laws.specs.Formed.{Fits, CommandFits, ValueFits, Consecutive, last, behind, Formed}

@@ -14,7 +14,7 @@ use native.Mathlib.Nat.{not-suc-le-zero, le-refl}
 use native.Mathlib.Omega.{arith}
 use mathlib.Core.List.{List}
 use Rattle.rules.specs.Tests.{parts-true, by-test}
-use Rattle.laws.specs.Promises.{fuel}
+use Rattle.rules.specs.Ends.{fuel}
 use Rattle.laws.specs.Values.{holds, target-le, convert-ok, reach-ok, Owns, safely, sequently, wildly, load-ok, operated-ok, moved-ok, home-ok, null-ok, truth-ok}
 use Rattle.laws.specs.Store.{put-ok, kept-ok}
 use Rattle.laws.specs.Steps.{Evaluates, Executes, goes-answered, goes-done, goes-store, expr-stops, command-stops, goes-then, goes-ruled, goes-enter, goes-on}

@@ -9,7 +9,7 @@ use Rattle.rules.specs.Calls.{stateOf}
 use Rattle.rules.specs.Valid.{InHome, ValidState}
 use Prim.Native.Nat.{ℕ, zero, suc}
 use mathlib.Core.List.{List, [], _∷_, _++_}
-use Rattle.laws.specs.Promises.{Proper, fuel, check, Ends, atDone, atStop}
+use Rattle.rules.specs.Ends.{Proper, fuel, check, Ends, atDone, atStop}
 use Rattle.laws.specs.Values.{Ok, holds, checkFails}
 
 pub data Answers (P : Value → Type 0) : Answer → Type 0 where

@@ -13,7 +13,7 @@ use Prim.Native.Nat.{ℕ, zero, suc, _+_, _≤_, _<_}
 use native.Mathlib.Nat.{not-suc-le-zero}
 use native.Mathlib.Omega.{arith}
 use mathlib.Core.List.{List, [], _∷_, _++_}
-use Rattle.laws.specs.Promises.{leftAt, leftAfter}
+use Rattle.rules.specs.Ends.{leftAt, leftAfter}
 use Rattle.rules.specs.Tests.{by-test}
 
 abbrev pub leftOf : Answer → ℕ

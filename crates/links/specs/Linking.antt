@@ -10,7 +10,8 @@ use mathlib.Core.List.{List}
 use lib.ListN.{length, set, length-set, replicate, length-replicate}
 use lib.Seq.{getD-set-same}
 use Rattle.rules.specs.Kinds.{same}
-use Rattle.laws.specs.Convert.{Spread, byteOf}
+use Rattle.rules.specs.Graph.{byteOf}
+use Rattle.laws.specs.Convert.{Spread}
 use Rattle.laws.specs.Same.{reflexive, symmetric}
 use Rattle.raise.specs.Marks.{at, zeros, AtSet, here, other, at-set, Below, below-same, below-trans, kept, Raised}
 use Rattle.raise.specs.Demands.{Falls, Ref, Tables}

@@ -7,7 +7,8 @@ use Prim.Native.Nat.{ℕ, _≤_, _<_}
 use mathlib.Core.List.{List}
 use lib.ListN.{length}
 use Rattle.rules.specs.Kinds.{same}
-use Rattle.laws.specs.Convert.{Spread, byteOf}
+use Rattle.rules.specs.Graph.{byteOf}
+use Rattle.laws.specs.Convert.{Spread}
 use Rattle.raise.specs.Marks.{at, Below}
 use Rattle.raise.specs.Demands.{Falls, Ref}
 use Rattle.links.specs.Plain.{plain, Equal, Lower}

@@ -9,7 +9,8 @@ use lib.ListN.{getD}
 use Rattle.rules.specs.Table.{Expr, Command, Routine}
 use Rattle.rules.specs.declared.Kind.the-variants.{int, DYNAMIC}
 use Rattle.rules.specs.Kinds.{kindOf, deep, same}
-use Rattle.laws.specs.Convert.{Conv, Spread, byteOf}
+use Rattle.rules.specs.Graph.{byteOf}
+use Rattle.laws.specs.Convert.{Conv, Spread}
 use Rattle.laws.specs.Same.{same-kind, same-targets, reflexive, symmetric, trans}
 use Rattle.raise.specs.Marks.{at}
 use Rattle.raise.specs.Demands.{Falls, Ref, Upward, Level}

@@ -4,7 +4,7 @@ use mathlib.Core.Path.{_≡_}
 use Prim.Native.Nat.{ℕ, _≤_, _<_}
 use mathlib.Core.List.{List}
 use lib.ListN.{length}
-use Rattle.laws.specs.Convert.{byteOf}
+use Rattle.rules.specs.Graph.{byteOf}
 use Rattle.raise.specs.Marks.{at}
 
 -- ---- the tables

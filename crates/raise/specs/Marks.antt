@@ -6,7 +6,7 @@ use native.Mathlib.Omega.{arith}
 use mathlib.Core.List.{List, [], _∷_}
 use lib.ListN.{length, getD, set, length-set, replicate}
 use lib.Seq.{getD-set-same}
-use Rattle.laws.specs.Convert.{byteOf}
+use Rattle.rules.specs.Graph.{byteOf}
 
 -- Entry i of a table; 0 past its end.
 abbrev pub at : List ℕ → ℕ → ℕ

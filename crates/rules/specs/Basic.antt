@@ -1,5 +1,5 @@
 -- Tests, bytes, and verdicts.
-use Prim.Native.Nat.{ℕ, zero, suc, _+_, _*_}
+use Prim.Native.Nat.{ℕ, zero, suc, _+_, _*_, _<_}
 use mathlib.Core.Bool.{Bool, true, false, _&&_}
 use mathlib.Core.List.{List}
 use lib.ListN.{getD}
@@ -22,6 +22,10 @@ half s i = byte s i + 256 * byte s (i + 1)
 
 abbrev pub word : List ℕ → ℕ → ℕ
 word s i = half s i + 65536 * half s (i + 2)
+
+-- A file's entries are bytes.
+pub record Bytes (s : List ℕ) : Type 0 where
+  pub each : (i : ℕ) → byte s i < 256
 
 -- 2 ^ 32
 abbrev pub width : ℕ

@@ -7,6 +7,8 @@ use lib.ListN.{getD, length}
 use lib.Dec.{leb, eqb}
 use Rattle.rules.specs.declared.Kind.{Kind}
 use Rattle.rules.specs.declared.Kind.the-variants.{int, SAFE, SEQ, DYNAMIC}
+use Rattle.rules.specs.declared.Need.{Need}
+use Rattle.rules.specs.declared.Need.the-variants.{Nothing, Moving, Converting}
 use Rattle.rules.specs.Basic.{choose, Verdict, guard, firstBad}
 use Rattle.rules.specs.Table.{Expr, Command, Routine, literal, home, cast, null, sum, read, op, skip, then, store, ifElse, while}
 use Rattle.rules.specs.Shape.{typeOf}
@@ -22,25 +24,20 @@ abbrev pub kind : List ℕ → ℕ → Kind
 kind m zero = int
 kind m (suc t) = kindOf (getD m t 0)
 
+-- A row of a table by kinds: what it says for int, SAFE, SEQ and DYNAMIC.
+abbrev pub byKind : {X : Type 0} → X → X → X → X → Kind → X
+byKind a b c d int = a
+byKind a b c d SAFE = b
+byKind a b c d SEQ = c
+byKind a b c d DYNAMIC = d
+
 -- ---- equality (RULES 4.4)
 
 abbrev pub sameKind : Kind → Kind → Bool
-sameKind int int = true
-sameKind int SAFE = false
-sameKind int SEQ = false
-sameKind int DYNAMIC = false
-sameKind SAFE int = false
-sameKind SAFE SAFE = true
-sameKind SAFE SEQ = false
-sameKind SAFE DYNAMIC = false
-sameKind SEQ int = false
-sameKind SEQ SAFE = false
-sameKind SEQ SEQ = true
-sameKind SEQ DYNAMIC = false
-sameKind DYNAMIC int = false
-sameKind DYNAMIC SAFE = false
-sameKind DYNAMIC SEQ = false
-sameKind DYNAMIC DYNAMIC = true
+sameKind int b = byKind true false false false b
+sameKind SAFE b = byKind false true false false b
+sameKind SEQ b = byKind false false true false b
+sameKind DYNAMIC b = byKind false false false true b
 
 -- Are the targets compared too? Not those of int or DYNAMIC.
 abbrev pub deep : Kind → Bool
@@ -64,22 +61,10 @@ same r m t u = sameBelow r m (suc (r .types)) t u
 
 -- The kinds: anything to int; int to what is not SAFE; equal kinds; SEQ to SAFE.
 abbrev pub kindConverts : Kind → Kind → Bool
-kindConverts int int = true
-kindConverts int SAFE = false
-kindConverts int SEQ = true
-kindConverts int DYNAMIC = true
-kindConverts SAFE int = true
-kindConverts SAFE SAFE = true
-kindConverts SAFE SEQ = false
-kindConverts SAFE DYNAMIC = false
-kindConverts SEQ int = true
-kindConverts SEQ SAFE = true
-kindConverts SEQ SEQ = true
-kindConverts SEQ DYNAMIC = false
-kindConverts DYNAMIC int = true
-kindConverts DYNAMIC SAFE = false
-kindConverts DYNAMIC SEQ = false
-kindConverts DYNAMIC DYNAMIC = true
+kindConverts int b = byKind true false true true b
+kindConverts SAFE b = byKind true true false false b
+kindConverts SEQ b = byKind true true true false b
+kindConverts DYNAMIC b = byKind true false false true b
 
 -- Reference to reference asks equal targets, unless both are DYNAMIC.
 abbrev pub targetsMatter : Kind → Kind → Bool
@@ -112,33 +97,42 @@ abbrev pub spreads : Kind → Kind → Bool
 spreads int b = true
 spreads SAFE b = true
 spreads SEQ b = true
-spreads DYNAMIC int = true
-spreads DYNAMIC SAFE = false
-spreads DYNAMIC SEQ = false
-spreads DYNAMIC DYNAMIC = true
+spreads DYNAMIC b = byKind true false false true b
 
 abbrev pub typeKind : Routine → List ℕ → ℕ → Bool
 typeKind r m t = spreads (kind m t) (kind m (r .target t))
 
--- The a of a pointer sum is not SAFE; each cast converts.
-abbrev pub exprKind : Routine → List ℕ → Expr → Bool
-exprKind r m (literal n) = true
-exprKind r m (home g) = true
-exprKind r m (cast a t) = converts r m (typeOf r a) t
-exprKind r m (null t) = true
-exprKind r m (sum a b) = notSafe (kind m (typeOf r a))
-exprKind r m (read a) = true
-exprKind r m (op o a b) = true
-exprKind r m Expr.none = true
+-- What a row asks: the a of a pointer sum is not SAFE; each cast converts.
+abbrev pub exprNeed : Routine → Expr → Need
+exprNeed r (literal n) = Nothing
+exprNeed r (home g) = Nothing
+exprNeed r (cast a t) = Converting (typeOf r a) t
+exprNeed r (null t) = Nothing
+exprNeed r (sum a b) = Moving (typeOf r a)
+exprNeed r (read a) = Nothing
+exprNeed r (op o a b) = Nothing
+exprNeed r Expr.none = Nothing
 
 -- Each store's value converts to the target of the pointer's type.
+abbrev pub commandNeed : Routine → Command → Need
+commandNeed r skip = Nothing
+commandNeed r (then a b) = Nothing
+commandNeed r (store a b) = Converting (typeOf r b) (r .target (typeOf r a))
+commandNeed r (ifElse a b c) = Nothing
+commandNeed r (while a b) = Nothing
+commandNeed r Command.none = Nothing
+
+-- Does the marking give what is asked?
+abbrev pub needMet : Routine → List ℕ → Need → Bool
+needMet r m Nothing = true
+needMet r m (Moving t) = notSafe (kind m t)
+needMet r m (Converting s t) = converts r m s t
+
+abbrev pub exprKind : Routine → List ℕ → Expr → Bool
+exprKind r m x = needMet r m (exprNeed r x)
+
 abbrev pub commandKind : Routine → List ℕ → Command → Bool
-commandKind r m skip = true
-commandKind r m (then a b) = true
-commandKind r m (store a b) = converts r m (typeOf r b) (r .target (typeOf r a))
-commandKind r m (ifElse a b c) = true
-commandKind r m (while a b) = true
-commandKind r m Command.none = true
+commandKind r m x = needMet r m (commandNeed r x)
 
 -- A marking that earns neither 7 nor 8. Type row i is that of type i + 1.
 pub record Acceptable (r : Routine) (m : List ℕ) : Type 0 where

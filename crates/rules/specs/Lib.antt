@@ -5,12 +5,14 @@ pub mod Reading
 pub mod Shape
 pub mod Kinds
 pub mod Least
+pub mod Graph
 pub mod Steps
 pub mod Memory
 pub mod Ruled
 pub mod Operators
 pub mod Values
 pub mod Run
+pub mod Ends
 pub mod Valid
 pub mod Calls
 pub mod Tests

@@ -1,4 +1,4 @@
-// The types that code and definitions share: run-time values, sections, and the answers of the calls.
+// The types that code and definitions share: run-time values, kinds, what rows ask of them, sections, and the answers of the calls.
 
 // A run-time value: a plain number, or the pair of a home number and an offset.
 pub enum Value {
@@ -12,6 +12,13 @@ pub enum Kind {
     SAFE,
     SEQ,
     DYNAMIC,
+}
+
+// What a row asks of kinds: nothing; that this type is not SAFE; that the first type converts to the second.
+pub enum Need {
+    Nothing,
+    Moving(u8),
+    Converting(u8, u8),
 }
 
 // A section of the file, with what its rows are judged by: the counts of types, then homes, and of expressions; the place of the homes' count.

@@ -11,7 +11,7 @@ use Rattle.rules.specs.Steps.{units}
 use Rattle.rules.specs.Table.{Home, Routine, routine}
 use Rattle.rules.specs.Run.{start, exec, run}
 use Rattle.rules.specs.Calls.{endingOf, stateOf, Left, Ended, outcomeSays, runSays, reported}
-use Rattle.laws.specs.Promises.{Ends, atStop, leftAfter}
+use Rattle.rules.specs.Ends.{Ends, atStop, leftAfter}
 use Rattle.laws.specs.Start.{start-ok}
 use Rattle.laws.specs.Sound.{exec-ok}
 use Rattle.laws.specs.Units.{exec-spends}

@@ -10,15 +10,18 @@ use mathlib.Core.List.{List, _++_}
 use lib.ListN.{length, getD, replicate, length-replicate, getD-replicate, List·getD-eq-default}
 use Rattle.rules.specs.Table.{Expr, Command, Routine, literal, home, cast, null, sum, read, op, skip, then, store, ifElse, while}
 use Rattle.rules.specs.declared.Kind.the-variants.{int}
-use Rattle.rules.specs.Kinds.{kindOf, kind, notSafe, spreads, exprKind, commandKind, converts, Acceptable}
+use Rattle.rules.specs.declared.Need.{Need}
+use Rattle.rules.specs.declared.Need.the-variants.{Nothing, Moving, Converting}
+use Rattle.rules.specs.Kinds.{kindOf, kind, notSafe, spreads, exprNeed, commandNeed, needMet, Acceptable}
 use Rattle.rules.specs.Least.{Least}
 use Rattle.rules.specs.Tests.{false-true}
-use Rattle.laws.specs.Convert.{byteOf, Spread}
+use Rattle.rules.specs.Graph.{byteOf}
+use Rattle.laws.specs.Convert.{Spread, spreads-two, two-spreads, spreads-int}
 use Rattle.laws.specs.Formed.{Fits, CommandFits, Formed, type-le}
 use Rattle.laws.specs.Dynamic.{all-acceptable}
-use Rattle.laws.specs.Graph.{Demand, Meets, Each, Need, nothing, moving, converting, exprNeed, commandNeed, needDemands, targetDemands, typeDemands, exprDemands, commandDemands, gather, demands}
-use Rattle.laws.specs.Solve.{Solution, solved, antisym}
-use Rattle.laws.specs.Demands.{each-split, each-join, conversion-met, met-converts}
+use Rattle.rules.specs.Graph.{Demand, Meets, Each, needDemands, targetDemands, typeDemands, exprDemands, commandDemands, gather, demands}
+use Rattle.promises.specs.Solve.{Solution, solved, antisym}
+use Rattle.promises.specs.Demands.{each-split, each-join, conversion-met, met-converts}
 
 pub least-unique : {r : Routine} {m w : List ℕ} → Least r m → Least r w → m ≡ w
 least-unique {r} {m} {w} a b =
@@ -66,51 +69,7 @@ each-rows P r h =
       commands = gather-each P (commandDemands r) (r .commands) v;
     }
 
--- ---- a type row
-
-pub spreads-two : (a b : ℕ) → spreads (kindOf a) (kindOf b) ≡ true → 2 ≤ a → 2 ≤ b
-spreads-two zero b h i = absurd (omega arith)
-spreads-two (suc zero) b h i = absurd (omega arith)
-spreads-two (suc (suc a)) zero h i = false-true h
-spreads-two (suc (suc a)) (suc zero) h i = false-true h
-spreads-two (suc (suc a)) (suc (suc b)) h i = omega arith
-
-pub two-spreads : (a b : ℕ) → (2 ≤ a → 2 ≤ b) → spreads (kindOf a) (kindOf b) ≡ true
-two-spreads zero b h = refl
-two-spreads (suc zero) b h = refl
-two-spreads (suc (suc a)) zero h = absurd (omega (arith, h (omega arith)))
-two-spreads (suc (suc a)) (suc zero) h = absurd (omega (arith, h (omega arith)))
-two-spreads (suc (suc a)) (suc (suc b)) h = refl
-
-pub spreads-int : (a : ℕ) → spreads (kindOf a) int ≡ true
-spreads-int zero = refl
-spreads-int (suc zero) = refl
-spreads-int (suc (suc a)) = refl
-
 -- ---- an expression or a command row, by what it asks
-
-abbrev needKind : Routine → List ℕ → Need → Bool
-needKind r m nothing = true
-needKind r m (moving t) = notSafe (kind m t)
-needKind r m (converting s t) = converts r m s t
-
-expr-need : (r : Routine) (m : List ℕ) (x : Expr) → exprKind r m x ≡ needKind r m (exprNeed r x)
-expr-need r m (literal n) = refl
-expr-need r m (home g) = refl
-expr-need r m (cast a t) = refl
-expr-need r m (null t) = refl
-expr-need r m (sum a b) = refl
-expr-need r m (read a) = refl
-expr-need r m (op o a b) = refl
-expr-need r m Expr.none = refl
-
-command-need : (r : Routine) (m : List ℕ) (x : Command) → commandKind r m x ≡ needKind r m (commandNeed r x)
-command-need r m skip = refl
-command-need r m (then a b) = refl
-command-need r m (store a b) = refl
-command-need r m (ifElse a b c) = refl
-command-need r m (while a b) = refl
-command-need r m Command.none = refl
 
 not-safe : (m : List ℕ) (t : ℕ) → notSafe (kind m t) ≡ true → 1 ≤ byteOf m t
 not-safe m zero h = false-true h
@@ -131,9 +90,9 @@ safe-not m (suc t) h = go (getD m t 0) h
 
 -- The source of a conversion is a type that there is.
 abbrev NeedFits : Routine → Need → Type 0
-NeedFits r nothing = Unit {0}
-NeedFits r (moving t) = Unit {0}
-NeedFits r (converting s t) = s ≤ r .types
+NeedFits r Nothing = Unit {0}
+NeedFits r (Moving t) = Unit {0}
+NeedFits r (Converting s t) = s ≤ r .types
 
 module _ {r : Routine} (formed : Formed r) where
   expr-fits : {e : ℕ} (x : Expr) → e < r .exprs → Fits r e x → NeedFits r (exprNeed r x)
@@ -163,15 +122,15 @@ module _ (r : Routine) (m : List ℕ) where
   met-target p i zero h = spreads-int (getD m i 0)
   met-target p i (suc t) h = two-spreads (getD m i 0) (getD m t 0) (h .0)
 
-  need-met : Spread r m → (p : ℕ) (x : Need) → needKind r m x ≡ true → Each (Meets m) (needDemands r p x)
-  need-met s p nothing h = tt
-  need-met s p (moving t) h = (not-safe m t h, tt)
-  need-met s p (converting a t) h = conversion-met r m p s a t h
+  need-met : Spread r m → (p : ℕ) (x : Need) → needMet r m x ≡ true → Each (Meets m) (needDemands r p x)
+  need-met s p Nothing h = tt
+  need-met s p (Moving t) h = (not-safe m t h, tt)
+  need-met s p (Converting a t) h = conversion-met r m p s a t h
 
-  met-need : Formed r → (p : ℕ) (x : Need) → NeedFits r x → Each (Meets m) (needDemands r p x) → needKind r m x ≡ true
-  met-need f p nothing l h = refl
-  met-need f p (moving t) l h = safe-not m t (h .0)
-  met-need f p (converting s t) l h = met-converts r m p (f .falls) s t l h
+  met-need : Formed r → (p : ℕ) (x : Need) → NeedFits r x → Each (Meets m) (needDemands r p x) → needMet r m x ≡ true
+  met-need f p Nothing l h = refl
+  met-need f p (Moving t) l h = safe-not m t (h .0)
+  met-need f p (Converting s t) l h = met-converts r m p (f .falls) s t l h
 
   -- ---- all rows
 
@@ -188,8 +147,8 @@ module _ (r : Routine) (m : List ℕ) where
       rows-each (Meets m) r
       (record {
         types = λ i l. target-met (r .typePlace (suc i)) i (r .target (suc i)) (a .types i l);
-        exprs = λ e l. need-met s (r .exprPlace e) (exprNeed r (r .expr e)) (sym (expr-need r m (r .expr e)) ∙ a .exprs e l);
-        commands = λ c l. need-met s (r .commandPlace c) (commandNeed r (r .command c)) (sym (command-need r m (r .command c)) ∙ a .commands c l);
+        exprs = λ e l. need-met s (r .exprPlace e) (exprNeed r (r .expr e)) (a .exprs e l);
+        commands = λ c l. need-met s (r .commandPlace c) (commandNeed r (r .command c)) (a .commands c l);
       })
 
   pub meets-acceptable : Formed r → length m ≡ r .types → ((i : ℕ) → i < r .types → getD m i 0 ≤ 2) → Each (Meets m) (demands r) → Acceptable r m
@@ -200,11 +159,9 @@ module _ (r : Routine) (m : List ℕ) where
         bytes = b;
         types = λ i k. met-target (r .typePlace (suc i)) i (r .target (suc i)) (x .types i k);
         exprs = λ e k.
-            expr-need r m (r .expr e)
-            ∙ met-need f (r .exprPlace e) (exprNeed r (r .expr e)) (expr-fits f (r .expr e) k (f .exprs e k .0)) (x .exprs e k);
+            met-need f (r .exprPlace e) (exprNeed r (r .expr e)) (expr-fits f (r .expr e) k (f .exprs e k .0)) (x .exprs e k);
         commands = λ c k.
-            command-need r m (r .command c)
-            ∙ met-need f (r .commandPlace c) (commandNeed r (r .command c)) (command-fits f c (r .command c) (f .commands c k .0)) (x .commands c k);
+            met-need f (r .commandPlace c) (commandNeed r (r .command c)) (command-fits f c (r .command c) (f .commands c k .0)) (x .commands c k);
       }
 
 -- ---- the least marking

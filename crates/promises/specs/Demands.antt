@@ -13,11 +13,11 @@ use Rattle.rules.specs.declared.Kind.{Kind}
 use Rattle.rules.specs.declared.Kind.the-variants.{int, SAFE, SEQ, DYNAMIC}
 use Rattle.rules.specs.Kinds.{kindOf, sameKind, deep, sameBelow, same, converts}
 use Rattle.rules.specs.Tests.{false-true, parts-true, both-true, by-test}
 use Rattle.laws.specs.Same.{sameKind-refl, sameKind-eq}
 use Rattle.laws.specs.Values.{Falls}
 use Rattle.laws.specs.Formed.{ref-kind}
-use Rattle.laws.specs.Convert.{conv-of, of-conv, any-to-int, from-int, int-from, Spread}
-use Rattle.laws.specs.Graph.{Demand, Meets, Each, ends, pairs, conversion}
+use Rattle.laws.specs.Convert.{conv-of, of-conv, any-to-int, from-int, int-from, Spread, kinds-equal}
+use Rattle.rules.specs.Graph.{Demand, Meets, Each, ends, pairs, conversion}
 
 pub each-split : (P : Demand → Type 0) (xs ys : List Demand) → Each P (xs ++ ys) → Each P xs × Each P ys
 each-split P [] ys h = (tt, h)
@@ -35,15 +35,6 @@ Alike zero zero = Unit {0}
 Alike zero (suc b) = ⊥
 Alike (suc a) zero = ⊥
 Alike (suc a) (suc b) = Unit {0}
-
-pub kinds-equal : (k l : ℕ) → (1 ≤ k → 1 ≤ l) → (1 ≤ l → 1 ≤ k) → (2 ≤ k → 2 ≤ l) → (2 ≤ l → 2 ≤ k) → kindOf k ≡ kindOf l
-kinds-equal zero zero a b c d = refl
-kinds-equal zero (suc l) a b c d = absurd (omega (arith, b (suc-le-suc zero-le)))
-kinds-equal (suc k) zero a b c d = absurd (omega (arith, a (suc-le-suc zero-le)))
-kinds-equal (suc zero) (suc zero) a b c d = refl
-kinds-equal (suc zero) (suc (suc l)) a b c d = absurd (omega (arith, d (omega arith)))
-kinds-equal (suc (suc k)) (suc zero) a b c d = absurd (omega (arith, c (omega arith)))
-kinds-equal (suc (suc k)) (suc (suc l)) a b c d = refl
 
 -- A number for each kind.
 level : Kind → ℕ

@@ -19,8 +19,8 @@ use Rattle.rules.specs.Kinds.{kinds}
 use Rattle.rules.specs.Run.{run}
 use Rattle.rules.specs.Calls.{formed, judged, checking, lentEnough, cellCount, inferable, Left, Ended, orLeave, reported, Inferred, left, marked, runnable, running}
 use Rattle.rules.specs.Tested.{passed}
-use Rattle.laws.specs.Promises.{SameCalls, NoRowsIsNone}
+use Rattle.promises.specs.Promises.{SameCalls, NoRowsIsNone}
 use Rattle.laws.specs.Known.{none-past, fifth-none, reading-sections, formed-reading}
 
 module _ (s : List ℕ) where
   abbrev z : List ℕ

@@ -26,11 +26,11 @@ use Rattle.rules.specs.Values.{convert, homeValue, reachSafe, reach, fetched, l
 use Rattle.rules.specs.Run.{Stop, Answer, got, stopped, Ran, done, halted, onValue, andThen, ruled, enter, onDone, afterwards, answered, turns, exprRow, evalBelow, commandRow, execBelow, freshCells, givenValue, cleared, given, start, run}
 use Rattle.rules.specs.Calls.{cellCount, running, runnable, reported}
 use Rattle.rules.specs.Tests.{false-true, parts-true, by-test}
-use Rattle.laws.specs.Promises.{Alone, SameRun}
+use Rattle.promises.specs.Promises.{Alone, SameRun}
 use Rattle.laws.specs.Formed.{Consecutive, last, behind, Formed}
 use Rattle.laws.specs.Depth.{then-same, enter-same}
 use Rattle.laws.specs.Start.{length-start}
 use Rattle.laws.specs.Read.{formed-fine, judged-fine}
 
 -- The homes reach no further than n cells.
 record Reached (n : ℕ) (hs : List Home) : Type 0 where

@@ -18,9 +18,9 @@ use Rattle.rules.specs.Reading.{rowBytes, fewest, most, rowGood, rows, section,
 use Rattle.rules.specs.Calls.{formed, judged, checking, Left, inferable, Inferred, left, marked, runnable, running}
 use Rattle.rules.specs.Tested.{refused-fine}
 use Rattle.rules.specs.Tests.{false-true, in-range}
-use Rattle.laws.specs.Promises.{FirstBytes, SameCalls, FirstBytesDecide}
+use Rattle.promises.specs.Promises.{FirstBytes, SameCalls, FirstBytesDecide}
 use Rattle.laws.specs.WellRead.{Placed, Fifth, absent, present, WellRead}
 use Rattle.laws.specs.Known.{sections-known, values-near, reading-known}
 
 guard-same : {X : Type 0} (n p : ℕ) (b c : Bool) (go go′ : Unit {0} → Verdict X) → b ≡ c → (b ≡ true → go tt ≡ go′ tt) → guard n p b go ≡ guard n p c go′
 guard-same n p true true go go′ e h = h refl

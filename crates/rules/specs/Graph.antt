@@ -2,9 +2,11 @@
 -- A marking is acceptable exactly if it meets every demand of the graph (`Promises.Meeting`).
 use Prim.Native.Nat.{ℕ, zero, suc, _≤_}
 use mathlib.Core.List.{List, [], _∷_, _++_}
-use Rattle.rules.specs.Table.{Expr, Command, Routine, literal, home, cast, null, sum, read, op, skip, then, store, ifElse, while}
-use Rattle.rules.specs.Shape.{typeOf}
-use Rattle.laws.specs.Convert.{byteOf}
+use lib.ListN.{getD}
+use Rattle.rules.specs.declared.Need.{Need}
+use Rattle.rules.specs.declared.Need.the-variants.{Nothing, Moving, Converting}
+use Rattle.rules.specs.Table.{Routine}
+use Rattle.rules.specs.Kinds.{exprNeed, commandNeed}
 
 -- ---- demands
 
@@ -18,6 +20,11 @@ pub data Rule : Type 0 where
 pub data Demand : Type 0 where
   source : Rule → ℕ → ℕ → ℕ → Demand
   edge : Rule → ℕ → ℕ → ℕ → ℕ → Demand
+
+-- The byte of type t; int has 0.
+abbrev pub byteOf : List ℕ → ℕ → ℕ
+byteOf m zero = 0
+byteOf m (suc t) = getD m t 0
 
 abbrev pub Meets : List ℕ → Demand → Type 0
 Meets m (source rule place k t) = k ≤ byteOf m t
@@ -69,34 +76,10 @@ abbrev pub targetDemands : ℕ → ℕ → ℕ → List Demand
 targetDemands p t zero = []
 targetDemands p t (suc u) = edge pointedTo p 2 t (suc u) ∷ []
 
--- What a row asks: nothing; that this type is not SAFE; that the first type converts to the second.
-pub data Need : Type 0 where
-  nothing : Need
-  moving : ℕ → Need
-  converting : ℕ → ℕ → Need
-
-abbrev pub exprNeed : Routine → Expr → Need
-exprNeed r (literal n) = nothing
-exprNeed r (home g) = nothing
-exprNeed r (cast a t) = converting (typeOf r a) t
-exprNeed r (null t) = nothing
-exprNeed r (sum a b) = moving (typeOf r a)
-exprNeed r (read a) = nothing
-exprNeed r (op o a b) = nothing
-exprNeed r Expr.none = nothing
-
-abbrev pub commandNeed : Routine → Command → Need
-commandNeed r skip = nothing
-commandNeed r (then a b) = nothing
-commandNeed r (store a b) = converting (typeOf r b) (r .target (typeOf r a))
-commandNeed r (ifElse a b c) = nothing
-commandNeed r (while a b) = nothing
-commandNeed r Command.none = nothing
-
 abbrev pub needDemands : Routine → ℕ → Need → List Demand
-needDemands r p nothing = []
-needDemands r p (moving t) = source pointerSum p 1 t ∷ []
-needDemands r p (converting s t) = conversion r p s t
+needDemands r p Nothing = []
+needDemands r p (Moving t) = source pointerSum p 1 t ∷ []
+needDemands r p (Converting s t) = conversion r p s t
 
 -- ---- the graph of a routine
 

@@ -15,12 +15,12 @@ use Rattle.rules.specs.Kinds.{kind}
 use Rattle.rules.specs.Memory.{State, cell}
 use Rattle.rules.specs.Run.{startAddress, givenIn, cleared, given, start}
 use Rattle.rules.specs.Tests.{parts-true}
-use Rattle.laws.specs.Promises.{Starting, StartingMemory}
+use Rattle.promises.specs.Promises.{Starting, StartingMemory}
 use Rattle.laws.specs.Store.{cell-same, cell-other}
 use Rattle.laws.specs.Formed.{Formed}
 use Rattle.laws.specs.Known.{Rising, formed-rising}
 use Rattle.laws.specs.Start.{start-laid, blank-at, given-ok, row-in, given-small}
 use Rattle.laws.specs.Read.{formed-fine}
 
 -- ---- rows rise
 

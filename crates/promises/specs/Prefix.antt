@@ -15,8 +15,9 @@ use Prim.Native.Nat.{ℕ, zero, suc, _+_, _≤_, _<_}
 use native.Mathlib.Nat.{not-suc-le-zero, zero-add, suc-add}
 use native.Mathlib.Omega.{arith}
 use mathlib.Core.List.{List, [], _∷_, _++_, append-assoc, append-nil}
-use Rattle.laws.specs.Promises.{leftAfter, stopMore, ranMore, CutRan, cutRan, Longer, alike, longer}
+use Rattle.rules.specs.Ends.{leftAfter}
+use Rattle.promises.specs.Promises.{stopMore, ranMore, CutRan, cutRan, Longer, alike, longer}
 use Rattle.laws.specs.Units.{leftOf, Spends, eval-spends, exec-spends}
 
 abbrev answerMore : ℕ → Answer → Answer
 answerMore d (got v f) = got v (f + d)

@@ -28,19 +28,21 @@ use lib.Dec.{leb, ltb}
 use borrow.Author.Tests.{ltb-true}
 use Rattle.rules.specs.Tests.{false-true, fine-same}
 use Rattle.rules.specs.Tested.{refused-fine, passed}
-use Rattle.laws.specs.Promises.{Bytes, Safety, Spending, Prefixes, Surplus, Afterwards, MadeOfNumber, Equal, AllDynamic, Exactly, Demanded, LeastMarking, LeastExists, OneInference, SomeInference, Within, Rows, leftAfter}
+use Rattle.rules.specs.Basic.{Bytes}
+use Rattle.rules.specs.Ends.{leftAfter}
+use Rattle.promises.specs.Promises.{Safety, Spending, Prefixes, Surplus, Afterwards, MadeOfNumber, Equal, AllDynamic, Exactly, Demanded, LeastMarking, LeastExists, OneInference, SomeInference, Within, Rows}
 use Rattle.laws.specs.Values.{null-address, valid-same}
 use Rattle.laws.specs.Steps.{Steps, still, enters, stores, steps-valid}
 use Rattle.laws.specs.Formed.{Formed, type-le}
 use Rattle.laws.specs.Sound.{exec-ok}
 use Rattle.laws.specs.Units.{exec-spends}
-use Rattle.laws.specs.Prefix.{exec-longer}
+use Rattle.promises.specs.Prefix.{exec-longer}
 use Rattle.laws.specs.Start.{length-start, start-laid, start-ok, given-past}
 use Rattle.laws.specs.Known.{unrefused, formed-known, formed-rising}
 use Rattle.laws.specs.Read.{null-ref, formed-fine, judged-fine, acceptable-judged}
 use Rattle.laws.specs.Same.{reflexive, symmetric, trans, same-kind, same-bound}
 use Rattle.laws.specs.Dynamic.{all-acceptable}
-use Rattle.laws.specs.Least.{acceptable-meets, meets-acceptable, least-exists, least-unique}
+use Rattle.promises.specs.Least.{acceptable-meets, meets-acceptable, least-exists, least-unique}
 
 module _ {r : Routine} {m : List ℕ} where
   split : {w w′ : State} {k : List Step} (l : List Step) → Steps r m w (l ++ k) w′ → Steps r m w l (replay w l) × Steps r m (replay w l) k w′

@@ -11,8 +11,8 @@ use Rattle.rules.specs.Table.{routine}
 use Rattle.rules.specs.Reading.{cells, sections, fifth, reading, rising}
 use Rattle.rules.specs.Shape.{shape}
 use Rattle.rules.specs.Calls.{formed}
-use Rattle.laws.specs.Promises.{Stops, StopsAfterCommands}
+use Rattle.promises.specs.Promises.{Stops, StopsAfterCommands}
 use Rattle.laws.specs.Known.{none-past, reading-sections}
 
 module _ (s : List ℕ) (stops : Stops s) where
   no-rows : (at : Starts) → sections s ≡ fine at → routine s at .values ≡ 0

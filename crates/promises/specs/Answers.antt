@@ -15,7 +15,7 @@ use Rattle.rules.specs.declared.RunAnswer.{RunAnswer}
 use Rattle.rules.specs.declared.RunAnswer.the-variants as runs
 use Rattle.rules.specs.Basic.{Verdict, fine, refused}
 use Rattle.rules.specs.Calls.{Ending, finished, outOfFuel, failedCheck, stuckAt, Ended, readSays, checkSays, inferSays, outcomeSays, runSays}
-use Rattle.laws.specs.Promises.{Lossless}
+use Rattle.promises.specs.Promises.{Lossless}
 
 -- What can be made again from what it says loses nothing.
 injective : {X Y : Type 0} {says : X → Y} (back : Y → X) → ((x : X) → back (says x) ≡ x) → (x y : X) → says x ≡ says y → x ≡ y

@@ -12,7 +12,7 @@ use Rattle.rules.specs.declared.ReadAnswer.{ReadAnswer}
 use Rattle.rules.specs.declared.CheckAnswer.{CheckAnswer}
 use Rattle.rules.specs.declared.InferAnswer.{InferAnswer}
 use Rattle.rules.specs.declared.RunAnswer.{RunAnswer}
-use Rattle.rules.specs.Basic.{byte, half, width, fine, refused, unlessRefused}
+use Rattle.rules.specs.Basic.{Bytes, half, width, fine, refused, unlessRefused}
 use Rattle.rules.specs.Table.{Routine, routine, null}
 use Rattle.rules.specs.Reading.{cells, sections, reading, rises}
 use Rattle.rules.specs.declared.Kind.{Kind}
@@ -25,35 +25,13 @@ use Rattle.rules.specs.Memory.{State, cell, replay}
 use Rattle.rules.specs.Ruled.{Check, check2, gives, fails}
 use Rattle.rules.specs.Values.{convert, reach, moved}
 use Rattle.rules.specs.Run.{Stop, noFuel, failed, noRule, Ran, done, halted, freshValue, startAddress, givenIn, cleared, start, exec, run}
+use Rattle.rules.specs.Ends.{Ends, leftAfter}
 use Rattle.rules.specs.Valid.{In, Real, InHome, Valid, ValidState}
 use Rattle.rules.specs.Calls.{formed, judged, cellCount, outOfFuel, endingOf, stateOf, Left, Ended, Inferred, checking, running, readSays, checkSays, inferSays, runSays, runnable}
 use Rattle.laws.specs.Formed.{Fits, CommandFits, ValueFits}
-use Rattle.laws.specs.Graph.{Meets, Each, demands}
+use Rattle.rules.specs.Graph.{Meets, Each, demands}
 
 -- ---- words
-
-pub record Bytes (s : List ℕ) : Type 0 where
-  pub each : (i : ℕ) → byte s i < 256
-
--- No fuel, or a check 1 to 4: not stuck.
-pub data Proper : Stop → Type 0 where
-  fuel : {p : ℕ} → Proper (noFuel p)
-  check : {c : Check} {p f : ℕ} → Proper (failed c p f)
-
--- A run is done, out of fuel or stopped by a check.
-pub data Ends : Ran → Type 0 where
-  atDone : {w : State} {f : ℕ} → Ends (done w f)
-  atStop : {w : State} {s : Stop} → Proper s → Ends (halted w s)
-
--- The fuel that is left.
-abbrev pub leftAt : Stop → ℕ
-leftAt (noFuel p) = 0
-leftAt (failed c p f) = f
-leftAt (noRule p f) = f
-
-abbrev pub leftAfter : Ran → ℕ
-leftAfter (done w f) = f
-leftAfter (halted w s) = leftAt s
 
 -- An end, with d more fuel left.
 abbrev pub stopMore : ℕ → Stop → Stop
