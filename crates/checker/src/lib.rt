@@ -1,112 +1,168 @@
 // The checker: whether a marking is acceptable, refusals 7 and 8.
+use needs::command_need;
+use needs::expr_need;
+use needs::kind_of;
 use rules::CheckAnswer;
+use rules::Kind;
+use rules::Need;
 use rules::ReadAnswer;
 use rules::Refusal;
 use rules::Starts;
 use view::Counts;
-use view::command_row;
-use view::expr_row;
 use view::row_counts;
 ghost use mathlib.Core.Path.{_≡_};
-ghost use Prim.Native.Nat.{ℕ, suc, _+_, _*_, _≤_, _<_};
+ghost use Prim.Native.Nat.{ℕ, suc, _+_, _*_, _≤_};
 ghost use lib.ListN.{length, getD};
 ghost use lib.Dec.{leb};
-ghost use Rattle.rules.specs.Kinds.{kinds, kindConverts, targetsMatter, typeKind, exprKind, commandKind};
+ghost use Rattle.rules.specs.Kinds.{kinds, kindConverts, targetsMatter, deep, notSafe, needMet, typeKind, exprKind, commandKind};
 ghost use Rattle.rules.specs.Basic.{half, fine};
 ghost use Rattle.rules.specs.Calls.{readSays, checkSays, checking};
-ghost use Rattle.rules.specs.Table.{exprOf, commandOf, routine};
+ghost use Rattle.rules.specs.Table.{routine};
 ghost use Rattle.view.specs.Rows.{countsOf};
-ghost use Rattle.checker.specs.Judge.{CheckedTyped, TypedFile, MarkedFile, Rows, breaking};
-ghost use Rattle.checker.specs.Tables.{kindBy, TwoTypes, OneType, AllTypes, ExprGiven, CommandGiven, Marked, KindsOf};
+ghost use Rattle.needs.specs.Typed.{Typed};
+ghost use Rattle.checker.specs.Judge.{CheckedTyped, MarkedFile, breaking};
+ghost use Rattle.checker.specs.Tables.{TwoTypes, OneType, AllTypes, Asked};
 ghost use Rattle.checker.specs.First.{FirstBad};
 
 // Whether types t and u are equal. Their targets are compared by this function again: targets fall.
-fn same(targets: &[u8; 256], kinds: &[u8; 256], t: u8, u: u8) -> bool
-    requires { ⌜ TwoTypes (now targets) (now kinds) t u ⌝ }
-    ensures { λ x. ⌜ ((g : TwoTypes (now (targets .entry)) (now (kinds .entry)) t u) → x ≡ Rattle.rules.specs.Kinds.same (g .routine) (g .marking) t u) ⌝ }
+fn same(targets: &[u8; 256], marking: &[u8], t: u8, u: u8) -> bool
+    requires { ⌜ TwoTypes (now targets) (now marking) t u ⌝ }
+    ensures { λ x. ⌜ ((g : TwoTypes (now (targets .entry)) (now (marking .entry)) t u) → x ≡ Rattle.rules.specs.Kinds.same (g .routine) (now (marking .entry)) t u) ⌝ }
 {
     if t == u {
         return true;
     }
-    let i = t as usize;
-    let j = u as usize;
-    let k = kinds[i];
-    if k != kinds[j] {
+    if t == 0 {
         return false;
     }
-    if k == 0 {
+    if u == 0 {
+        return false;
+    }
+    let i = t as usize;
+    let j = u as usize;
+    let k = marking[i - 1];
+    if k != marking[j - 1] {
+        return false;
+    }
+    if k == 2 {
         return true;
     }
-    if k == 3 {
-        return true;
-    }
-    same(targets, kinds, targets[i], targets[j])
+    same(targets, marking, targets[i], targets[j])
 }
 
 // Whether a reference or int of the first kind converts to the second, by the kinds alone.
-fn kinds_convert(a: u8, b: u8) -> bool
-    requires { ⌜ (a < 4) × (b < 4) ⌝ }
-    ensures { λ x. ⌜ x ≡ kindConverts (kindBy a) (kindBy b) ⌝ }
+fn kinds_convert(a: Kind, b: Kind) -> bool
+    ensures { λ x. ⌜ x ≡ kindConverts a b ⌝ }
 {
-    if b == 0 {
-        return true;
+    match a {
+        Kind::int => match b {
+            Kind::int => true,
+            Kind::SAFE => false,
+            Kind::SEQ => true,
+            Kind::DYNAMIC => true,
+        },
+        Kind::SAFE => match b {
+            Kind::int => true,
+            Kind::SAFE => true,
+            Kind::SEQ => false,
+            Kind::DYNAMIC => false,
+        },
+        Kind::SEQ => match b {
+            Kind::int => true,
+            Kind::SAFE => true,
+            Kind::SEQ => true,
+            Kind::DYNAMIC => false,
+        },
+        Kind::DYNAMIC => match b {
+            Kind::int => true,
+            Kind::SAFE => false,
+            Kind::SEQ => false,
+            Kind::DYNAMIC => true,
+        },
     }
-    if a == b {
-        return true;
+}
+
+// Whether types of this kind are equal only with equal targets.
+fn is_deep(k: Kind) -> bool
+    ensures { λ x. ⌜ x ≡ deep k ⌝ }
+{
+    match k {
+        Kind::int => false,
+        Kind::SAFE => true,
+        Kind::SEQ => true,
+        Kind::DYNAMIC => false,
     }
-    if a == 0 {
-        return b != 1;
-    }
-    if a == 2 {
-        return b == 1;
-    }
-    false
 }
 
 // Whether a conversion between these kinds asks equal targets.
-fn targets_matter(a: u8, b: u8) -> bool
-    requires { ⌜ (a < 4) × (b < 4) ⌝ }
-    ensures { λ x. ⌜ x ≡ targetsMatter (kindBy a) (kindBy b) ⌝ }
+fn targets_matter(a: Kind, b: Kind) -> bool
+    ensures { λ x. ⌜ x ≡ targetsMatter a b ⌝ }
 {
-    if a == 0 {
-        return false;
+    match a {
+        Kind::int => false,
+        Kind::SAFE => is_deep(b),
+        Kind::SEQ => is_deep(b),
+        Kind::DYNAMIC => is_deep(b),
     }
-    if b == 1 {
-        return true;
-    }
-    b == 2
 }
 
 // Whether a value of the first type converts to the second.
-fn converts(targets: &[u8; 256], kinds: &[u8; 256], from: u8, to: u8) -> bool
-    requires { ⌜ TwoTypes (now targets) (now kinds) from to ⌝ }
-    ensures { λ x. ⌜ ((g : TwoTypes (now (targets .entry)) (now (kinds .entry)) from to) → x ≡ Rattle.rules.specs.Kinds.converts (g .routine) (g .marking) from to) ⌝ }
+fn converts(targets: &[u8; 256], marking: &[u8], from: u8, to: u8) -> bool
+    requires { ⌜ TwoTypes (now targets) (now marking) from to ⌝ }
+    ensures { λ x. ⌜ ((g : TwoTypes (now (targets .entry)) (now (marking .entry)) from to) → x ≡ Rattle.rules.specs.Kinds.converts (g .routine) (now (marking .entry)) from to) ⌝ }
 {
     let i = from as usize;
     let j = to as usize;
-    let a = kinds[i];
-    let b = kinds[j];
+    let a = kind_of(marking, i);
+    let b = kind_of(marking, j);
     if !kinds_convert(a, b) {
         return false;
     }
     if !targets_matter(a, b) {
         return true;
     }
-    same(targets, kinds, targets[i], targets[j])
+    same(targets, marking, targets[i], targets[j])
+}
+
+// Whether a kind is one of a reference that may be moved.
+fn not_safe(k: Kind) -> bool
+    ensures { λ x. ⌜ x ≡ notSafe k ⌝ }
+{
+    match k {
+        Kind::int => false,
+        Kind::SAFE => false,
+        Kind::SEQ => true,
+        Kind::DYNAMIC => true,
+    }
+}
+
+// Whether the marking gives what a row asks.
+fn met(targets: &[u8; 256], marking: &[u8], need: Need) -> bool
+    requires { ⌜ Asked (now targets) (now marking) need ⌝ }
+    ensures { λ x. ⌜ ((g : Asked (now (targets .entry)) (now (marking .entry)) need) → x ≡ needMet (g .routine) (now (marking .entry)) need) ⌝ }
+{
+    match need {
+        Need::Nothing => true,
+        Need::Moving(t) => not_safe(kind_of(marking, t as usize)),
+        Need::Converting(s, t) => converts(targets, marking, s, t),
+    }
 }
 
 // Whether a type of the first kind may have a target of the second: DYNAMIC goes down.
-fn spreads(a: u8, b: u8) -> bool
-    requires { ⌜ (a < 4) × (b < 4) ⌝ }
-    ensures { λ x. ⌜ x ≡ Rattle.rules.specs.Kinds.spreads (kindBy a) (kindBy b) ⌝ }
+fn spreads(a: Kind, b: Kind) -> bool
+    ensures { λ x. ⌜ x ≡ Rattle.rules.specs.Kinds.spreads a b ⌝ }
 {
-    if a != 3 {
-        return true;
+    match a {
+        Kind::int => true,
+        Kind::SAFE => true,
+        Kind::SEQ => true,
+        Kind::DYNAMIC => match b {
+            Kind::int => true,
+            Kind::SAFE => false,
+            Kind::SEQ => false,
+            Kind::DYNAMIC => true,
+        },
     }
-    if b == 0 {
-        return true;
-    }
-    b == 3
 }
 
 // The index of the first byte that is no kind, or the marking's length.
@@ -123,91 +179,28 @@ fn bad_byte(marking: &[u8]) -> usize
     i
 }
 
-// The kind of type t.
-fn kind_of(kinds: &[u8; 256], t: u8) -> u8
-    ensures { λ r. ⌜ (r ≡ getD (now (kinds .entry)) t 0) × (t < 256) ⌝ }
-{
-    kinds[t as usize]
-}
-
 // Whether type t keeps the rule for type rows.
-fn type_ok(targets: &[u8; 256], kinds: &[u8; 256], t: usize) -> bool
-    requires { ⌜ OneType (now targets) (now kinds) t ⌝ }
-    ensures { λ x. ⌜ ((g : OneType (now (targets .entry)) (now (kinds .entry)) t) → x ≡ typeKind (g .routine) (g .marking) t) ⌝ }
+fn type_ok(targets: &[u8; 256], marking: &[u8], t: usize) -> bool
+    requires { ⌜ OneType (now targets) (now marking) t ⌝ }
+    ensures { λ x. ⌜ ((g : OneType (now (targets .entry)) (now (marking .entry)) t) → x ≡ typeKind (g .routine) (now (marking .entry)) t) ⌝ }
 {
-    let k = kinds[t];
-    let l = kind_of(kinds, targets[t]);
-    spreads(k, l)
+    let target = targets[t] as usize;
+    spreads(kind_of(marking, t), kind_of(marking, target))
 }
 
-// The index from 0 of the first of n type rows that breaks its rule, or n.
-fn bad_type(targets: &[u8; 256], kinds: &[u8; 256], n: usize) -> usize
-    requires { ⌜ AllTypes (now targets) (now kinds) n ⌝ }
-    ensures { λ r. ⌜ ((g : AllTypes (now (targets .entry)) (now (kinds .entry)) n) → FirstBad (λ i. typeKind (g .routine) (g .marking) (suc i)) n r) ⌝ }
+// The index from 0 of the first type row that breaks its rule, or their number.
+fn bad_type(targets: &[u8; 256], marking: &[u8]) -> usize
+    requires { ⌜ AllTypes (now targets) (now marking) ⌝ }
+    ensures { λ r. ⌜ ((g : AllTypes (now (targets .entry)) (now (marking .entry))) → FirstBad (λ i. typeKind (g .routine) (now (marking .entry)) (suc i)) (length (now (marking .entry))) r) ⌝ }
 {
     let mut i = 0;
-    while i < n {
-        if !type_ok(targets, kinds, i + 1) {
+    while i < marking.len() {
+        if !type_ok(targets, marking, i + 1) {
             return i;
         }
         i += 1;
     }
     i
-}
-
-// A type's number, which is below 256.
-fn narrow(t: u16) -> u8
-    requires { ⌜ t < 256 ⌝ }
-    ensures { λ r. ⌜ r ≡ t ⌝ }
-{
-    t as u8
-}
-
-// Whether an expression row keeps its rule: the a of a sum is not SAFE, and a cast converts.
-fn expr_ok(
-    types: &[u16; 1024],
-    targets: &[u8; 256],
-    kinds: &[u8; 256],
-    e: usize,
-    tag: u8,
-    a: u16,
-    b: u16,
-) -> bool
-    requires { ⌜ ExprGiven (now types) (now targets) (now kinds) e tag a b ⌝ }
-    ensures { λ x. ⌜ ((g : ExprGiven (now (types .entry)) (now (targets .entry)) (now (kinds .entry)) e tag a b) → x ≡ exprKind (g .rows .routine) (g .rows .marking) (exprOf tag a b)) ⌝ }
-{
-    if tag == 3 {
-        let from = types[a as usize];
-        return converts(targets, kinds, narrow(from), narrow(b));
-    }
-    if tag == 5 {
-        let of = types[a as usize];
-        return 2 <= kind_of(kinds, narrow(of));
-    }
-    true
-}
-
-// Whether a command row keeps its rule: a store's value converts to the target of the pointer's type.
-fn command_ok(
-    types: &[u16; 1024],
-    targets: &[u8; 256],
-    kinds: &[u8; 256],
-    c: usize,
-    tag: u8,
-    a: u16,
-    b: u16,
-    d: u16,
-) -> bool
-    requires { ⌜ CommandGiven (now types) (now targets) (now kinds) c tag a b d ⌝ }
-    ensures { λ x. ⌜ ((g : CommandGiven (now (types .entry)) (now (targets .entry)) (now (kinds .entry)) c tag a b d) → x ≡ commandKind (g .rows .routine) (g .rows .marking) (commandOf tag a b d)) ⌝ }
-{
-    if tag == 2 {
-        let pointer = types[a as usize];
-        let value = types[b as usize];
-        let to = targets[pointer as usize];
-        return converts(targets, kinds, narrow(value), to);
-    }
-    true
 }
 
 // The index of the first of n expression rows that breaks its rule, or n.
@@ -216,16 +209,16 @@ fn bad_expr(
     at: Starts,
     types: &[u16; 1024],
     targets: &[u8; 256],
-    kinds: &[u8; 256],
+    marking: &[u8],
     n: usize,
 ) -> usize
-    requires { ⌜ Rows (now file) at (now types) (now targets) (now kinds) n (half (now file) (at .exprs)) ⌝ }
-    ensures { λ r. ⌜ ((g : Rows (now (file .entry)) at (now (types .entry)) (now (targets .entry)) (now (kinds .entry)) n (half (now (file .entry)) (at .exprs))) → FirstBad (λ e. exprKind (routine (now (file .entry)) at) (g .marked .marking) (routine (now (file .entry)) at .expr e)) n r) ⌝ }
+    requires { ⌜ MarkedFile (now file) at (now types) (now targets) (now marking) × (n ≡ half (now file) (at .exprs)) ⌝ }
+    ensures { λ r. ⌜ FirstBad (λ e. exprKind (routine (now (file .entry)) at) (now (marking .entry)) (routine (now (file .entry)) at .expr e)) n r ⌝ }
 {
     let mut i = 0;
     while i < n {
-        let row = expr_row(file, at, i);
-        if !expr_ok(types, targets, kinds, i, row.tag, row.a, row.b) {
+        let need = expr_need(file, at, types, i);
+        if !met(targets, marking, need) {
             return i;
         }
         i += 1;
@@ -239,34 +232,21 @@ fn bad_command(
     at: Starts,
     types: &[u16; 1024],
     targets: &[u8; 256],
-    kinds: &[u8; 256],
+    marking: &[u8],
     n: usize,
 ) -> usize
-    requires { ⌜ Rows (now file) at (now types) (now targets) (now kinds) n (half (now file) (at .commands)) ⌝ }
-    ensures { λ r. ⌜ ((g : Rows (now (file .entry)) at (now (types .entry)) (now (targets .entry)) (now (kinds .entry)) n (half (now (file .entry)) (at .commands))) → FirstBad (λ c. commandKind (routine (now (file .entry)) at) (g .marked .marking) (routine (now (file .entry)) at .command c)) n r) ⌝ }
+    requires { ⌜ MarkedFile (now file) at (now types) (now targets) (now marking) × (n ≡ half (now file) (at .commands)) ⌝ }
+    ensures { λ r. ⌜ FirstBad (λ c. commandKind (routine (now (file .entry)) at) (now (marking .entry)) (routine (now (file .entry)) at .command c)) n r ⌝ }
 {
     let mut i = 0;
     while i < n {
-        let row = command_row(file, at, i);
-        if !command_ok(types, targets, kinds, i, row.tag, row.a, row.b, row.c) {
+        let need = command_need(file, at, types, i);
+        if !met(targets, marking, need) {
             return i;
         }
         i += 1;
     }
     i
-}
-
-// The kinds of a marking's types, each at its type's number.
-fn fill_kinds(marking: &[u8], kinds: &mut [u8; 256])
-    requires { ⌜ Marked (now marking) × (length (now kinds) ≡ 256) × (getD (now kinds) 0 0 ≡ 0) ⌝ }
-    ensures { λ _. ⌜ KindsOf (now (marking .entry)) (length (now (marking .entry))) (now (kinds .exit)) ⌝ }
-{
-    let n = marking.len();
-    let mut i: usize = 0;
-    while i < n {
-        kinds[i + 1] = marking[i] + 1;
-        i += 1;
-    }
 }
 
 // The places of a type row, by its index from 0, of an expression row and of a command row.
@@ -309,24 +289,23 @@ fn judge_rows(
     at: Starts,
     types: &[u16; 1024],
     targets: &[u8; 256],
-    kinds: &[u8; 256],
+    marking: &[u8],
     n: Counts,
 ) -> ReadAnswer
-    requires { ⌜ MarkedFile (now file) at (now types) (now targets) (now kinds) × (n ≡ countsOf (now file) at) ⌝ }
-    ensures { λ r. ⌜ ((g : MarkedFile (now (file .entry)) at (now (types .entry)) (now (targets .entry)) (now (kinds .entry))) → readSays r ≡ breaking (routine (now (file .entry)) at) (g .marking) at) ⌝ }
+    requires { ⌜ MarkedFile (now file) at (now types) (now targets) (now marking) × (n ≡ countsOf (now file) at) ⌝ }
+    ensures { λ r. ⌜ readSays r ≡ breaking (routine (now (file .entry)) at) (now (marking .entry)) at ⌝ }
 {
-    let n_types = wide(n.types);
-    let t = bad_type(targets, kinds, n_types);
-    if t < n_types {
+    let t = bad_type(targets, marking);
+    if t < marking.len() {
         return refuse(8, type_place(at, t));
     }
     let n_exprs = wide(n.exprs);
-    let e = bad_expr(file, at, types, targets, kinds, n_exprs);
+    let e = bad_expr(file, at, types, targets, marking, n_exprs);
     if e < n_exprs {
         return refuse(8, expr_place(at, e));
     }
     let n_commands = wide(n.commands);
-    let c = bad_command(file, at, types, targets, kinds, n_commands);
+    let c = bad_command(file, at, types, targets, marking, n_commands);
     if c < n_commands {
         return refuse(8, command_place(at, c));
     }
@@ -335,7 +314,7 @@ fn judge_rows(
 
 // Refusals 7 and 8 of a well-formed file.
 fn judge(file: &[u8], at: Starts, types: &[u16; 1024], marking: &[u8]) -> ReadAnswer
-    requires { ⌜ TypedFile (now file) at (now types) ⌝ }
+    requires { ⌜ Typed (now file) at (now types) ⌝ }
     ensures { λ r. ⌜ readSays r ≡ kinds (routine (now (file .entry)) at) (now (marking .entry)) (λ _. fine at) ⌝ }
 {
     let counts = row_counts(file, at);
@@ -352,16 +331,14 @@ fn judge(file: &[u8], at: Starts, types: &[u16; 1024], marking: &[u8]) -> ReadAn
         return refuse(7, b as u32);
     }
     let mut targets = [0u8; 256];
-    let mut kinds = [0u8; 256];
     targets::fill(file, at, n, &mut targets);
-    fill_kinds(marking, &mut kinds);
-    judge_rows(file, at, types, &targets, &kinds, counts)
+    judge_rows(file, at, types, &targets, marking, counts)
 }
 
 // Refusals 1 to 8 and 10; and in `types` the types of the expression rows of a file that earns none of 1 to 5.
 pub fn check_typed(file: &[u8], marking: &[u8], types: &mut [u16; 1024]) -> ReadAnswer
     requires { ⌜ length (now types) ≡ 1024 ⌝ }
-    ensures { λ r. ⌜ CheckedTyped (now (file .entry)) (now (marking .entry)) (now (types .exit)) r ⌝ }
+    ensures { λ r. ⌜ CheckedTyped (now (file .entry)) (now (marking .entry)) (now (types .entry)) (now (types .exit)) r ⌝ }
 {
     let read = reader::read_typed(file, types);
     let ReadAnswer::WellFormed(at) = read else {

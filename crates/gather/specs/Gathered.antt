@@ -5,9 +5,10 @@ use mathlib.Core.Bool.{true}
 use Prim.Native.Nat.{ℕ, zero, suc, _≤_, _<_}
 use mathlib.Core.List.{List}
 use lib.ListN.{length}
-use Rattle.rules.specs.Table.{Expr, Command, Routine, literal, home, cast, null, sum, read, op, skip, then, store, ifElse, while}
-use Rattle.rules.specs.Shape.{typeOf}
-use Rattle.rules.specs.Kinds.{converts, Acceptable}
+use Rattle.rules.specs.declared.Need.{Need}
+use Rattle.rules.specs.declared.Need.the-variants.{Nothing, Moving, Converting}
+use Rattle.rules.specs.Table.{Routine}
+use Rattle.rules.specs.Kinds.{converts, exprNeed, commandNeed, Acceptable}
 use Rattle.rules.specs.Graph.{byteOf}
 use Rattle.raise.specs.Marks.{at, Below}
 use Rattle.raise.specs.Demands.{Ref, Lists}
@@ -25,23 +26,11 @@ Listed F G m₀ s zero = Unit {0}
 Listed F G m₀ zero (suc t) = 1 ≤ byteOf m₀ (suc t)
 Listed F G m₀ (suc s) (suc t) = Entry F G (suc s) (suc t)
 
-abbrev pub ExprListed : Routine → List ℕ → List ℕ → List ℕ → Expr → Type 0
-ExprListed r F G m₀ (literal n) = Unit {0}
-ExprListed r F G m₀ (home g) = Unit {0}
-ExprListed r F G m₀ (cast a t) = Listed F G m₀ (typeOf r a) t
-ExprListed r F G m₀ (null t) = Unit {0}
-ExprListed r F G m₀ (sum a b) = 1 ≤ byteOf m₀ (typeOf r a)
-ExprListed r F G m₀ (read a) = Unit {0}
-ExprListed r F G m₀ (op o a b) = Unit {0}
-ExprListed r F G m₀ Expr.none = Unit {0}
-
-abbrev pub CommandListed : Routine → List ℕ → List ℕ → List ℕ → Command → Type 0
-CommandListed r F G m₀ skip = Unit {0}
-CommandListed r F G m₀ (then a b) = Unit {0}
-CommandListed r F G m₀ (store a b) = Listed F G m₀ (typeOf r b) (r .target (typeOf r a))
-CommandListed r F G m₀ (ifElse a b c) = Unit {0}
-CommandListed r F G m₀ (while a b) = Unit {0}
-CommandListed r F G m₀ Command.none = Unit {0}
+-- What a row asks is in the lists, or among the seeds.
+abbrev pub NeedListed : List ℕ → List ℕ → List ℕ → Need → Type 0
+NeedListed F G m₀ Nothing = Unit {0}
+NeedListed F G m₀ (Moving t) = 1 ≤ byteOf m₀ t
+NeedListed F G m₀ (Converting s t) = Listed F G m₀ s t
 
 -- The table has the targets of the routine's types.
 pub record Targets (r : Routine) (T : List ℕ) : Type 0 where
@@ -56,6 +45,6 @@ pub record Gathered (r : Routine) (T F G m₀ : List ℕ) : Type 0 where
   pub size : length m₀ ≡ r .types
   pub table : Targets r T
   pub lists : Lists (r .types) F G
-  pub exprs : (e : ℕ) → e < r .exprs → ExprListed r F G m₀ (r .expr e)
-  pub commands : (c : ℕ) → c < r .commands → CommandListed r F G m₀ (r .command c)
+  pub exprs : (e : ℕ) → e < r .exprs → NeedListed F G m₀ (exprNeed r (r .expr e))
+  pub commands : (c : ℕ) → c < r .commands → NeedListed F G m₀ (commandNeed r (r .command c))
   pub follows : (w : List ℕ) → Acceptable r w → Follows r F G m₀ w

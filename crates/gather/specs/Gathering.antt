@@ -7,22 +7,23 @@ use native.Mathlib.Decide.{ℕ-discrete}
 use native.Mathlib.Omega.{arith}
 use mathlib.Core.List.{List}
 use lib.ListN.{length, getD, replicate, length-replicate, take}
-use Rattle.rules.specs.Table.{Expr, Command, Routine, literal, home, cast, null, sum, read, op, skip, then, store, ifElse, while}
-use Rattle.rules.specs.Shape.{typeOf}
-use Rattle.rules.specs.Kinds.{kindOf, kind, notSafe, converts, Acceptable}
+use Rattle.rules.specs.declared.Need.{Need}
+use Rattle.rules.specs.declared.Need.the-variants.{Nothing, Moving, Converting}
+use Rattle.rules.specs.Table.{Routine}
+use Rattle.rules.specs.Kinds.{kindOf, kind, notSafe, converts, exprNeed, commandNeed, Acceptable}
 use Rattle.rules.specs.Tests.{false-true}
 use Rattle.rules.specs.Graph.{byteOf}
-use Rattle.laws.specs.Convert.{from-int}
+use Rattle.laws.specs.Convert.{from-int, not-safe-byte}
 use Rattle.raise.specs.Marks.{at, zeros, Below, kept, Raised}
 use Rattle.raise.specs.Demands.{Lists}
-use Rattle.gather.specs.Gathered.{Listed, ExprListed, CommandListed, Targets, Follows, Gathered}
+use Rattle.gather.specs.Gathered.{Listed, NeedListed, Targets, Follows, Gathered}
 use Rattle.gather.specs.Notes.{Noted, listed-grows}
 
 pub record Gathering (r : Routine) (i c : ℕ) (P Q m : List ℕ) : Type 0 where
   pub size : length m ≡ r .types
   pub lists : Lists (r .types) P Q
-  pub exprs : (e : ℕ) → e < i → ExprListed r P Q m (r .expr e)
-  pub commands : (e : ℕ) → e < c → CommandListed r P Q m (r .command e)
+  pub exprs : (e : ℕ) → e < i → NeedListed P Q m (exprNeed r (r .expr e))
+  pub commands : (e : ℕ) → e < c → NeedListed P Q m (commandNeed r (r .command e))
   pub follows : (w : List ℕ) → Acceptable r w → Follows r P Q m w
 
 -- The same of two arrays of 2,048 with n entries used, at most one for each row.
@@ -58,14 +59,6 @@ noting-none {r} {m = m} f g z =
 
 -- ---- what rows ask of every acceptable marking
 
-safe-byte : (k : ℕ) → notSafe (kindOf k) ≡ true → 1 ≤ k
-safe-byte zero h = false-true h
-safe-byte (suc k) h = suc-le-suc zero-le
-
-safe-seed : (m : List ℕ) (t : ℕ) → notSafe (kind m t) ≡ true → 1 ≤ byteOf m t
-safe-seed m zero h = false-true h
-safe-seed m (suc t) h = safe-byte (getD m t 0) h
-
 int-converts : (r : Routine) (w : List ℕ) (s t : ℕ) → converts r w s t ≡ true → s ≡ 0 → 1 ≤ t → 1 ≤ byteOf w t
 unfolding converts
 int-converts r w (suc s) t h e l = absurd (omega arith)
@@ -74,25 +67,11 @@ int-converts r w zero (suc t) h e l = from-int (getD w t 0) true h
 
 -- ---- one row more
 
-expr-kept : (r : Routine) (P Q : List ℕ) {m : List ℕ} (P′ Q′ : List ℕ) {m′ : List ℕ} → Below m m′ → ((a b : ℕ) → Listed P Q m a b → Listed P′ Q′ m′ a b) → (x : Expr)
-    → ExprListed r P Q m x → ExprListed r P′ Q′ m′ x
-expr-kept r P Q P′ Q′ g k (literal n) h = tt
-expr-kept r P Q P′ Q′ g k (home y) h = tt
-expr-kept r P Q P′ Q′ g k (cast a t) h = k (typeOf r a) t h
-expr-kept r P Q P′ Q′ g k (null t) h = tt
-expr-kept r P Q P′ Q′ g k (sum a b) h = kept g (typeOf r a) h
-expr-kept r P Q P′ Q′ g k (read a) h = tt
-expr-kept r P Q P′ Q′ g k (op o a b) h = tt
-expr-kept r P Q P′ Q′ g k Expr.none h = tt
-
-command-kept : (r : Routine) (P Q m P′ Q′ m′ : List ℕ) → ((a b : ℕ) → Listed P Q m a b → Listed P′ Q′ m′ a b) → (x : Command)
-    → CommandListed r P Q m x → CommandListed r P′ Q′ m′ x
-command-kept r P Q m P′ Q′ m′ k skip h = tt
-command-kept r P Q m P′ Q′ m′ k (then a b) h = tt
-command-kept r P Q m P′ Q′ m′ k (store a b) h = k (typeOf r b) (r .target (typeOf r a)) h
-command-kept r P Q m P′ Q′ m′ k (ifElse a b c) h = tt
-command-kept r P Q m P′ Q′ m′ k (while a b) h = tt
-command-kept r P Q m P′ Q′ m′ k Command.none h = tt
+need-kept : (P Q : List ℕ) {m : List ℕ} (P′ Q′ : List ℕ) {m′ : List ℕ} → Below m m′ → ((a b : ℕ) → Listed P Q m a b → Listed P′ Q′ m′ a b) → (x : Need)
+    → NeedListed P Q m x → NeedListed P′ Q′ m′ x
+need-kept P Q P′ Q′ g k Nothing h = tt
+need-kept P Q P′ Q′ g k (Moving t) h = kept g t h
+need-kept P Q P′ Q′ g k (Converting s t) h = k s t h
 
 module _ {r : Routine} {i c : ℕ} {P Q m : List ℕ} (g : Gathering r i c P Q m) where
   -- A conversion that every acceptable marking makes is noted.
@@ -102,8 +81,8 @@ module _ {r : Routine} {i c : ℕ} {P Q m : List ℕ} (g : Gathering r i c P Q m
       record {
         size = n .size ∙ g .size;
         lists = n .lists (r .types) a b (g .lists);
-        exprs = λ e l. expr-kept r P Q P′ Q′ (n .grows) (n .before) (r .expr e) (g .exprs e l);
-        commands = λ e l. command-kept r P Q m P′ Q′ m′ (n .before) (r .command e) (g .commands e l);
+        exprs = λ e l. need-kept P Q P′ Q′ (n .grows) (n .before) (exprNeed r (r .expr e)) (g .exprs e l);
+        commands = λ e l. need-kept P Q P′ Q′ (n .grows) (n .before) (commandNeed r (r .command e)) (g .commands e l);
         follows = λ w h.
             let x = g .follows w h in
             record { seeds = n .below w (x .seeds) (int-converts r w s t (f w h)); convs = n .each (converts r w) (f w h) (x .convs) };
@@ -115,24 +94,24 @@ module _ {r : Routine} {i c : ℕ} {P Q m : List ℕ} (g : Gathering r i c P Q m
       record {
         size = n .size ∙ g .size;
         lists = g .lists;
-        exprs = λ e l. expr-kept r P Q P Q (n .grows) (listed-grows P Q (n .grows)) (r .expr e) (g .exprs e l);
-        commands = λ e l. command-kept r P Q m P Q m′ (listed-grows P Q (n .grows)) (r .command e) (g .commands e l);
-        follows = λ w h. let x = g .follows w h in record { seeds = n .below w (x .seeds) (safe-seed w t (f w h)); convs = x .convs };
+        exprs = λ e l. need-kept P Q P Q (n .grows) (listed-grows P Q (n .grows)) (exprNeed r (r .expr e)) (g .exprs e l);
+        commands = λ e l. need-kept P Q P Q (n .grows) (listed-grows P Q (n .grows)) (commandNeed r (r .command e)) (g .commands e l);
+        follows = λ w h. let x = g .follows w h in record { seeds = n .below w (x .seeds) (not-safe-byte w t (f w h)); convs = x .convs };
       }
 
   -- A row whose demands are noted has passed.
-  pub gathering-expr : ExprListed r P Q m (r .expr i) → Gathering r (i + 1) c P Q m
+  pub gathering-expr : NeedListed P Q m (exprNeed r (r .expr i)) → Gathering r (i + 1) c P Q m
   gathering-expr h =
       record { size = g .size; lists = g .lists; exprs = λ e l. go e l (ℕ-discrete e i); commands = g .commands; follows = g .follows }
     where
-      go : (e : ℕ) → e < i + 1 → Dec (e ≡ i) → ExprListed r P Q m (r .expr e)
+      go : (e : ℕ) → e < i + 1 → Dec (e ≡ i) → NeedListed P Q m (exprNeed r (r .expr e))
       go e l (yes q) = rw q h
       go e l (no n) = g .exprs e (omega arith)
 
-  pub gathering-command : CommandListed r P Q m (r .command c) → Gathering r i (c + 1) P Q m
+  pub gathering-command : NeedListed P Q m (commandNeed r (r .command c)) → Gathering r i (c + 1) P Q m
   gathering-command h =
       record { size = g .size; lists = g .lists; exprs = g .exprs; commands = λ e l. go e l (ℕ-discrete e c); follows = g .follows }
     where
-      go : (e : ℕ) → e < c + 1 → Dec (e ≡ c) → CommandListed r P Q m (r .command e)
+      go : (e : ℕ) → e < c + 1 → Dec (e ≡ c) → NeedListed P Q m (commandNeed r (r .command e))
       go e l (yes q) = rw q h
       go e l (no n) = g .commands e (omega arith)

@@ -1,7 +1,6 @@
 pub mod Gathered
 pub mod Notes
 pub mod Gathering
-pub mod Operands
 pub mod Told
 pub mod Rows
 pub mod Tables

@@ -12,7 +12,7 @@ use Rattle.rules.specs.Basic.{Bytes}
 use Rattle.laws.specs.Read.{formed-fine}
 use Rattle.laws.specs.Known.{formed-reading, formed-known}
 use Rattle.reader.specs.Tables.{ReadTyped}
-use Rattle.gather.specs.Operands.{Typed}
+use Rattle.needs.specs.Typed.{Typed}
 
 module _ {s before after : List ℕ} {r : ReadAnswer} (t : ReadTyped s before after r) where
   pub told-fine : {at : Starts} → r ≡ reads.WellFormed at → formed s ≡ fine at

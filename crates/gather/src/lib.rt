@@ -1,15 +1,18 @@
 // What a file's rows ask of kinds: conversions listed, seeds marked.
+use needs::command_need;
+use needs::expr_need;
+use rules::Need;
 use rules::Starts;
 ghost use mathlib.Core.Path.{_≡_};
 ghost use Prim.Native.Nat.{ℕ, _+_, _≤_, _<_};
 ghost use lib.ListN.{length, take, replicate, getD};
 ghost use Rattle.rules.specs.Basic.{half};
 ghost use Rattle.rules.specs.Table.{routine};
-ghost use Rattle.laws.specs.WellRead.{WellRead};
-ghost use Rattle.laws.specs.Formed.{Formed};
+ghost use Rattle.laws.specs.Needs.{NeedFits};
+ghost use Rattle.needs.specs.Typed.{Typed};
 ghost use Rattle.gather.specs.Notes.{NotedIn};
 ghost use Rattle.gather.specs.Gathering.{Noting};
-ghost use Rattle.gather.specs.Operands.{Typed};
+ghost use Rattle.gather.specs.Rows.{NeedNoted};
 
 // All SAFE.
 pub fn clear(m: &mut [u8])
@@ -39,61 +42,23 @@ fn note(from: &mut [u8; 2048], to: &mut [u8; 2048], m: &mut [u8], n: usize, s: u
     n + 1
 }
 
-// Notes what expression row e asks: a cast its conversion, a pointer sum that its pointer is not SAFE.
-fn expr(
-    file: &[u8],
-    at: Starts,
-    ty: &[u16; 1024],
-    from: &mut [u8; 2048],
-    to: &mut [u8; 2048],
-    m: &mut [u8],
-    n: usize,
-    e: usize,
-) -> usize
-    requires { ⌜ Typed (now file) at (now ty) × (e < half (now file) (at .exprs)) × Noting (routine (now file) at) e 0 n (now from) (now to) (now m) ⌝ }
-    ensures { λ r. ⌜ Noting (routine (now (file .entry)) at) (e + 1) 0 r (now (from .exit)) (now (to .exit)) (now (m .exit)) ⌝ }
+// Notes what a row asks beside the n conversions noted so far, and tells how many there are.
+fn ask(from: &mut [u8; 2048], to: &mut [u8; 2048], m: &mut [u8], n: usize, need: Need) -> usize
+    requires { ⌜ (n < 2048) × (length (now from) ≡ 2048) × (length (now to) ≡ 2048) × NeedFits (length (now m)) need ⌝ }
+    ensures { λ r. ⌜ NeedNoted (now (from .entry)) (now (to .entry)) (now (m .entry)) n need r (now (from .exit)) (now (to .exit)) (now (m .exit)) ⌝ }
 {
-    let row = view::expr_row(file, at, e);
-    if row.tag == 3 {
-        let a = row.a as usize;
-        let s = ty[a] as u8;
-        let t = row.b as u8;
-        return note(from, to, m, n, s, t);
+    match need {
+        Need::Nothing => {
+            return n;
+        }
+        Need::Moving(t) => {
+            raise::at_least(m, t, 1);
+            return n;
+        }
+        Need::Converting(s, t) => {
+            return note(from, to, m, n, s, t);
+        }
     }
-    if row.tag == 5 {
-        let a = row.a as usize;
-        let s = ty[a] as u8;
-        raise::at_least(m, s, 1);
-        return n;
-    }
-    n
-}
-
-// Notes what command row c asks: a store the conversion of its value to the target of its pointer's type.
-fn command(
-    file: &[u8],
-    at: Starts,
-    ty: &[u16; 1024],
-    from: &mut [u8; 2048],
-    to: &mut [u8; 2048],
-    m: &mut [u8],
-    n: usize,
-    c: usize,
-) -> usize
-    requires { ⌜ Typed (now file) at (now ty) × (c < half (now file) (at .commands)) × Noting (routine (now file) at) (half (now file) (at .exprs)) c n (now from) (now to) (now m) ⌝ }
-    ensures { λ r. ⌜ Noting (routine (now (file .entry)) at) (half (now (file .entry)) (at .exprs)) (c + 1) r (now (from .exit)) (now (to .exit)) (now (m .exit)) ⌝ }
-{
-    let row = view::command_row(file, at, c);
-    if row.tag == 2 {
-        let a = row.a as usize;
-        let b = row.b as usize;
-        let pointer = ty[a] as usize;
-        let s = ty[b] as u8;
-        let reached = view::type_row(file, at, pointer);
-        let t = reached.target as u8;
-        return note(from, to, m, n, s, t);
-    }
-    n
 }
 
 // Notes what the expressions ask, beside a marking that is all SAFE, and tells how many conversions there are.
@@ -112,7 +77,8 @@ fn exprs(
     let mut n: usize = 0;
     let mut e: usize = 0;
     while e < count {
-        n = expr(file, at, ty, from, to, m, n, e);
+        let need = expr_need(file, at, ty, e);
+        n = ask(from, to, m, n, need);
         e += 1;
     }
     n
@@ -135,7 +101,8 @@ fn commands(
     let mut n = casts;
     let mut c: usize = 0;
     while c < count {
-        n = command(file, at, ty, from, to, m, n, c);
+        let need = command_need(file, at, ty, c);
+        n = ask(from, to, m, n, need);
         c += 1;
     }
     n

@@ -8,40 +8,22 @@ use native.Mathlib.Omega.{arith}
 use mathlib.Core.List.{List}
 use lib.ListN.{getD, getD-replicate}
 use Rattle.rules.specs.Basic.{choose}
-use Rattle.rules.specs.Table.{Expr, Command, Routine, literal, home, cast, null, sum, read, op, skip, then, store, ifElse, while}
-use Rattle.rules.specs.Shape.{typeOf}
+use Rattle.rules.specs.declared.Need.{Need}
+use Rattle.rules.specs.declared.Need.the-variants.{Nothing, Moving, Converting}
+use Rattle.rules.specs.Table.{Routine}
 use Rattle.rules.specs.declared.Kind.the-variants.{int}
-use Rattle.rules.specs.Kinds.{kindOf, kind, sameKind, deep, same, sameBelow, converts, spreads, notSafe, exprKind, commandKind, Acceptable}
+use Rattle.rules.specs.Kinds.{kindOf, kind, sameKind, deep, same, sameBelow, converts, spreads, exprNeed, commandNeed, needMet, Acceptable}
 use Rattle.rules.specs.Least.{Least}
 use Rattle.rules.specs.Graph.{byteOf}
-use Rattle.laws.specs.Convert.{Conv, conv-of, of-conv, Spread, any-to-int, int-from}
+use Rattle.laws.specs.Convert.{Conv, conv-of, of-conv, any-to-int, int-from, spread-of, two-spreads, spreads-int, byte-not-safe}
 use Rattle.laws.specs.Values.{target-le}
 use Rattle.laws.specs.Formed.{Formed}
 use Rattle.laws.specs.Dynamic.{all-acceptable}
-use Rattle.laws.specs.Convert.{spreads-two, two-spreads, spreads-int}
 use Rattle.raise.specs.Marks.{at, Below, kept}
 use Rattle.raise.specs.Demands.{Ref}
 use Rattle.links.specs.Plain.{plain}
-use Rattle.gather.specs.Gathered.{Listed, ExprListed, CommandListed, Targets, Gathered}
+use Rattle.gather.specs.Gathered.{Listed, NeedListed, Targets, Gathered}
 use Rattle.infer.specs.Tables.{Suits, LeastAbove, past}
-
--- ---- rules on bytes
-
-seed-safe : (k : ℕ) → 1 ≤ k → notSafe (kindOf k) ≡ true
-seed-safe zero h = absurd (not-suc-le-zero h)
-seed-safe (suc zero) h = refl
-seed-safe (suc (suc k)) h = refl
-
-not-safe : (m : List ℕ) (t : ℕ) → 1 ≤ byteOf m t → notSafe (kind m t) ≡ true
-not-safe m zero h = absurd (not-suc-le-zero h)
-not-safe m (suc t) h = seed-safe (getD m t 0) h
-
-spread-of : {r : Routine} {w : List ℕ} → Acceptable r w → Spread r w
-spread-of {r} {w} a t h i e = go (decLt t (r .types))
-  where
-    go : Dec (t < r .types) → 2 ≤ getD w i 0
-    go (yes l) = let s : spreads (kindOf (getD w t 0)) (kind w (suc i)) ≡ true = rw e at (a .types t l) in spreads-two (getD w t 0) (getD w i 0) s h
-    go (no n) = absurd (omega (arith, past w t (omega (arith, a .size))))
 
 -- ---- the table's routine has the same equal types
 
@@ -126,23 +108,10 @@ module _ {r : Routine} (f : Formed r) {T F G m₀ : List ℕ} (g : Gathered r T 
         let c : Conv r m (at F j) (at G j) = plain-conv f (g .table) (g .lists .from j l) (g .lists .to j l) (suits .convs j l) in
         of-conv r m s t (rw (h .to) at (rw (h .from) at c))
 
-    expr-kind : (x : Expr) → ExprListed r F G m₀ x → exprKind r m x ≡ true
-    expr-kind (literal n) h = refl
-    expr-kind (home y) h = refl
-    expr-kind (cast a t) h = converted (typeOf r a) t h
-    expr-kind (null t) h = refl
-    expr-kind (sum a b) h = not-safe m (typeOf r a) (seed (typeOf r a) h)
-    expr-kind (read a) h = refl
-    expr-kind (op o a b) h = refl
-    expr-kind Expr.none h = refl
-
-    command-kind : (x : Command) → CommandListed r F G m₀ x → commandKind r m x ≡ true
-    command-kind skip h = refl
-    command-kind (then a b) h = refl
-    command-kind (store a b) h = converted (typeOf r b) (r .target (typeOf r a)) h
-    command-kind (ifElse a b c) h = refl
-    command-kind (while a b) h = refl
-    command-kind Command.none h = refl
+    need-met : (x : Need) → NeedListed F G m₀ x → needMet r m x ≡ true
+    need-met Nothing h = refl
+    need-met (Moving t) h = byte-not-safe m t (seed t h)
+    need-met (Converting s t) h = converted s t h
 
     type-kind : (i t : ℕ) → i < r .types → r .target (suc i) ≡ t → spreads (kindOf (getD m i 0)) (kind m t) ≡ true
     type-kind i zero l e = spreads-int (getD m i 0)
@@ -156,8 +125,8 @@ module _ {r : Routine} (f : Formed r) {T F G m₀ : List ℕ} (g : Gathered r T 
                 size = low .size ∙ g .size;
                 bytes = λ i l. omega (arith, lowest (all-acceptable f) .each i, getD-replicate {A = ℕ} (r .types) i 2 0 l);
                 types = λ i l. type-kind i (r .target (suc i)) l refl;
-                exprs = λ e l. expr-kind (r .expr e) (g .exprs e l);
-                commands = λ c l. command-kind (r .command c) (g .commands c l);
+                exprs = λ e l. need-met (exprNeed r (r .expr e)) (g .exprs e l);
+                commands = λ c l. need-met (commandNeed r (r .command c)) (g .commands c l);
               };
           lowest = λ w a i l. lowest a .each i;
         }

@@ -11,7 +11,7 @@ use Rattle.rules.specs.Table.{routine}
 use Rattle.rules.specs.Least.{Least}
 use Rattle.raise.specs.Demands.{Falls, Lists, lists-size}
 use Rattle.gather.specs.Gathering.{Noting, gathered}
-use Rattle.gather.specs.Operands.{Typed}
+use Rattle.needs.specs.Typed.{Typed}
 use Rattle.gather.specs.Tables.{Filled, filled-end}
 use Rattle.infer.specs.Tables.{LeastAbove}
 use Rattle.infer.specs.Bridge.{least}

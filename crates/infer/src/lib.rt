@@ -10,7 +10,7 @@ ghost use Rattle.rules.specs.Basic.{half};
 ghost use Rattle.rules.specs.Table.{routine};
 ghost use Rattle.rules.specs.Least.{Least};
 ghost use Rattle.rules.specs.Calls.{readSays, inferSays, Inferred};
-ghost use Rattle.gather.specs.Operands.{Typed};
+ghost use Rattle.needs.specs.Typed.{Typed};
 ghost use Rattle.raise.specs.Demands.{Falls, Lists};
 ghost use Rattle.infer.specs.Tables.{LeastAbove};
 

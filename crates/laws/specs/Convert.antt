@@ -1,15 +1,16 @@
--- A conversion between references, as four facts on the marking's bytes: what inference and its proofs go by.
+-- Kind rules as facts on the marking's bytes, a conversion between references as four: what inference and its proofs go by.
 use mathlib.Core.Path.{_≡_, refl}
 use mathlib.Core.Bool.{Bool, true, _&&_}
-use Prim.Native.Nat.{ℕ, zero, suc, _≤_, _<_, zero-le, suc-le-suc}
+use Prim.Native.Nat.{ℕ, zero, suc, _-_, _≤_, _<_, zero-le, suc-le-suc}
 use native.Mathlib.Nat.{not-suc-le-zero}
+use native.Mathlib.Decide.{decLt}
 use native.Mathlib.Omega.{arith}
 use mathlib.Core.List.{List}
-use lib.ListN.{getD}
+use lib.ListN.{getD, List·getD-eq-default}
 use Rattle.rules.specs.Basic.{choose}
 use Rattle.rules.specs.Table.{Routine}
 use Rattle.rules.specs.declared.Kind.the-variants.{int}
-use Rattle.rules.specs.Kinds.{kindOf, kindConverts, targetsMatter, same, converts, spreads}
+use Rattle.rules.specs.Kinds.{kindOf, kind, kindConverts, targetsMatter, same, converts, spreads, notSafe, Acceptable}
 use Rattle.rules.specs.Graph.{byteOf}
 use Rattle.rules.specs.Tests.{false-true}
 
@@ -79,10 +80,6 @@ int-from zero x h = absurd (not-suc-le-zero h)
 int-from (suc zero) x h = refl
 int-from (suc (suc b)) x h = refl
 
--- DYNAMIC goes down to the target.
-abbrev pub Spread : Routine → List ℕ → Type 0
-Spread r m = (t : ℕ) → 2 ≤ getD m t 0 → (i : ℕ) → r .target (suc t) ≡ suc i → 2 ≤ getD m i 0
-
 pub spreads-two : (a b : ℕ) → spreads (kindOf a) (kindOf b) ≡ true → 2 ≤ a → 2 ≤ b
 spreads-two zero b h i = absurd (omega arith)
 spreads-two (suc zero) b h i = absurd (omega arith)
@@ -111,3 +108,37 @@ kinds-equal (suc zero) (suc zero) a b c d = refl
 kinds-equal (suc zero) (suc (suc l)) a b c d = absurd (omega (arith, d (omega arith)))
 kinds-equal (suc (suc k)) (suc zero) a b c d = absurd (omega (arith, c (omega arith)))
 kinds-equal (suc (suc k)) (suc (suc l)) a b c d = refl
+
+-- A type that is not int has the kind of its byte.
+pub kind-up : (m : List ℕ) (t : ℕ) → (t ≡ 0 → ⊥) → kind m t ≡ kindOf (getD m (t - 1) 0)
+kind-up m zero h = absurd (h refl)
+kind-up m (suc t) h = let q : suc t - 1 ≡ t = omega arith in rw q refl
+
+-- DYNAMIC goes down to the target.
+abbrev pub Spread : Routine → List ℕ → Type 0
+Spread r m = (t : ℕ) → 2 ≤ getD m t 0 → (i : ℕ) → r .target (suc t) ≡ suc i → 2 ≤ getD m i 0
+
+pub spread-of : {r : Routine} {m : List ℕ} → Acceptable r m → Spread r m
+spread-of {r} {m} a t h i e = go (decLt t (r .types))
+  where
+    go : Dec (t < r .types) → 2 ≤ getD m i 0
+    go (yes l) = let s : spreads (kindOf (getD m t 0)) (kind m (suc i)) ≡ true = rw e at (a .types t l) in spreads-two (getD m t 0) (getD m i 0) s h
+    go (no n) = absurd (omega (arith, List·getD-eq-default m 0 {n = t} (omega (arith, a .size))))
+
+-- A type is not SAFE exactly if its byte is SEQ or more.
+pub not-safe-byte : (m : List ℕ) (t : ℕ) → notSafe (kind m t) ≡ true → 1 ≤ byteOf m t
+not-safe-byte m zero h = false-true h
+not-safe-byte m (suc t) h = go (getD m t 0) h
+  where
+    go : (k : ℕ) → notSafe (kindOf k) ≡ true → 1 ≤ k
+    go zero h = false-true h
+    go (suc k) h = suc-le-suc zero-le
+
+pub byte-not-safe : (m : List ℕ) (t : ℕ) → 1 ≤ byteOf m t → notSafe (kind m t) ≡ true
+byte-not-safe m zero h = absurd (not-suc-le-zero h)
+byte-not-safe m (suc t) h = go (getD m t 0) h
+  where
+    go : (k : ℕ) → 1 ≤ k → notSafe (kindOf k) ≡ true
+    go zero h = absurd (not-suc-le-zero h)
+    go (suc zero) h = refl
+    go (suc (suc k)) h = refl

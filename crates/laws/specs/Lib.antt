@@ -6,6 +6,7 @@ pub mod Dynamic
 pub mod WellRead
 pub mod Known
 pub mod Formed
+pub mod Needs
 pub mod Read
 -- Runs: values, stores, steps, soundness, the starting memory, units.
 pub mod Values

@@ -8,7 +8,7 @@ use native.Mathlib.Decide.{ℕ-discrete, decLt}
 use native.Mathlib.Omega.{arith}
 use mathlib.Core.List.{List, _++_}
 use lib.ListN.{length, getD, replicate, length-replicate, getD-replicate, List·getD-eq-default}
-use Rattle.rules.specs.Table.{Expr, Command, Routine, literal, home, cast, null, sum, read, op, skip, then, store, ifElse, while}
+use Rattle.rules.specs.Table.{Routine}
 use Rattle.rules.specs.declared.Kind.the-variants.{int}
 use Rattle.rules.specs.declared.Need.{Need}
 use Rattle.rules.specs.declared.Need.the-variants.{Nothing, Moving, Converting}
@@ -16,8 +16,9 @@ use Rattle.rules.specs.Kinds.{kindOf, kind, notSafe, spreads, exprNeed, command
 use Rattle.rules.specs.Least.{Least}
 use Rattle.rules.specs.Tests.{false-true}
 use Rattle.rules.specs.Graph.{byteOf}
-use Rattle.laws.specs.Convert.{Spread, spreads-two, two-spreads, spreads-int}
-use Rattle.laws.specs.Formed.{Fits, CommandFits, Formed, type-le}
+use Rattle.laws.specs.Convert.{Spread, spread-of, spreads-two, two-spreads, spreads-int, not-safe-byte, byte-not-safe}
+use Rattle.laws.specs.Formed.{Formed}
+use Rattle.laws.specs.Needs.{NeedFits, expr-need-fits, command-need-fits}
 use Rattle.laws.specs.Dynamic.{all-acceptable}
 use Rattle.rules.specs.Graph.{Demand, Meets, Each, needDemands, targetDemands, typeDemands, exprDemands, commandDemands, gather, demands}
 use Rattle.promises.specs.Solve.{Solution, solved, antisym}
@@ -71,48 +72,6 @@ each-rows P r h =
 
 -- ---- an expression or a command row, by what it asks
 
-not-safe : (m : List ℕ) (t : ℕ) → notSafe (kind m t) ≡ true → 1 ≤ byteOf m t
-not-safe m zero h = false-true h
-not-safe m (suc t) h = go (getD m t 0) h
-  where
-    go : (k : ℕ) → notSafe (kindOf k) ≡ true → 1 ≤ k
-    go zero h = false-true h
-    go (suc k) h = suc-le-suc zero-le
-
-safe-not : (m : List ℕ) (t : ℕ) → 1 ≤ byteOf m t → notSafe (kind m t) ≡ true
-safe-not m zero h = absurd (not-suc-le-zero h)
-safe-not m (suc t) h = go (getD m t 0) h
-  where
-    go : (k : ℕ) → 1 ≤ k → notSafe (kindOf k) ≡ true
-    go zero h = absurd (not-suc-le-zero h)
-    go (suc zero) h = refl
-    go (suc (suc k)) h = refl
-
--- The source of a conversion is a type that there is.
-abbrev NeedFits : Routine → Need → Type 0
-NeedFits r Nothing = Unit {0}
-NeedFits r (Moving t) = Unit {0}
-NeedFits r (Converting s t) = s ≤ r .types
-
-module _ {r : Routine} (formed : Formed r) where
-  expr-fits : {e : ℕ} (x : Expr) → e < r .exprs → Fits r e x → NeedFits r (exprNeed r x)
-  expr-fits (literal n) l y = tt
-  expr-fits (home g) l y = tt
-  expr-fits (cast a t) l y = type-le formed a (omega (arith, y .0))
-  expr-fits (null t) l y = tt
-  expr-fits (sum a b) l y = tt
-  expr-fits (read a) l y = tt
-  expr-fits (op o a b) l y = tt
-  expr-fits Expr.none l y = tt
-
-  command-fits : (c : ℕ) (x : Command) → CommandFits r c x → NeedFits r (commandNeed r x)
-  command-fits c skip y = tt
-  command-fits c (then a b) y = tt
-  command-fits c (store a b) y = type-le formed b (y .1)
-  command-fits c (ifElse a b d) y = tt
-  command-fits c (while a b) y = tt
-  command-fits c Command.none y = tt
-
 module _ (r : Routine) (m : List ℕ) where
   target-met : (p i t : ℕ) → spreads (kindOf (getD m i 0)) (kind m t) ≡ true → Each (Meets m) (targetDemands p (suc i) t)
   target-met p i zero h = tt
@@ -124,26 +83,19 @@ module _ (r : Routine) (m : List ℕ) where
 
   need-met : Spread r m → (p : ℕ) (x : Need) → needMet r m x ≡ true → Each (Meets m) (needDemands r p x)
   need-met s p Nothing h = tt
-  need-met s p (Moving t) h = (not-safe m t h, tt)
+  need-met s p (Moving t) h = (not-safe-byte m t h, tt)
   need-met s p (Converting a t) h = conversion-met r m p s a t h
 
-  met-need : Formed r → (p : ℕ) (x : Need) → NeedFits r x → Each (Meets m) (needDemands r p x) → needMet r m x ≡ true
+  met-need : Formed r → (p : ℕ) (x : Need) → NeedFits (r .types) x → Each (Meets m) (needDemands r p x) → needMet r m x ≡ true
   met-need f p Nothing l h = refl
-  met-need f p (Moving t) l h = safe-not m t (h .0)
-  met-need f p (Converting s t) l h = met-converts r m p (f .falls) s t l h
+  met-need f p (Moving t) l h = byte-not-safe m t (h .0)
+  met-need f p (Converting s t) l h = met-converts r m p (f .falls) s t (l .0) h
 
   -- ---- all rows
 
-  spread : Acceptable r m → Spread r m
-  spread a t h i e = go (decLt t (r .types))
-    where
-      go : Dec (t < r .types) → 2 ≤ getD m i 0
-      go (yes l) = let s : spreads (kindOf (getD m t 0)) (kind m (suc i)) ≡ true = rw e at (a .types t l) in spreads-two (getD m t 0) (getD m i 0) s h
-      go (no n) = absurd (omega (arith, List·getD-eq-default m 0 {n = t} (omega (arith, a .size))))
-
   pub acceptable-meets : Acceptable r m → Each (Meets m) (demands r)
   acceptable-meets a =
-      let s = spread a in
+      let s = spread-of a in
       rows-each (Meets m) r
       (record {
         types = λ i l. target-met (r .typePlace (suc i)) i (r .target (suc i)) (a .types i l);
@@ -159,9 +111,9 @@ module _ (r : Routine) (m : List ℕ) where
         bytes = b;
         types = λ i k. met-target (r .typePlace (suc i)) i (r .target (suc i)) (x .types i k);
         exprs = λ e k.
-            met-need f (r .exprPlace e) (exprNeed r (r .expr e)) (expr-fits f (r .expr e) k (f .exprs e k .0)) (x .exprs e k);
+            met-need f (r .exprPlace e) (exprNeed r (r .expr e)) (expr-need-fits f e k) (x .exprs e k);
         commands = λ c k.
-            met-need f (r .commandPlace c) (commandNeed r (r .command c)) (command-fits f c (r .command c) (f .commands c k .0)) (x .commands c k);
+            met-need f (r .commandPlace c) (commandNeed r (r .command c)) (command-need-fits f c k) (x .commands c k);
       }
 
 -- ---- the least marking

@@ -2,56 +2,46 @@
 use Prim.Native.Nat.{_≤_, _-_}
 use native.Mathlib.Omega.{arith}
 use borrow.Author.Tests.{not-true, not-false}
-use Rattle.rules.specs.Basic.{half}
 use Rattle.rules.specs.Table.{routine}
 use Rattle.rules.specs.Kinds.{commandKind}
-use Rattle.checker.specs.Judge.{Rows}
 use Rattle.checker.specs.First.{Passed, passed-none, passed-more, found, found-none}
-use Rattle.checker.proofs.LoopLaws.{command-asked, command-given, command-says}
+use Rattle.checker.proofs.RowLaws.{command-asked, command-says}
 use Rattle.checker.proofs.bad_command.Statement.{statement}
 use Rattle.checker.proofs.bad_command.Tie as tie
 use Rattle.checker.proofs.bad_command.Reads as reads
 use Rattle.checker.proofs.bad_command.Lts as lts
-use Rattle.checker.proofs.command_ok.Reads as command-ok-reads
-use Rattle.view.proofs.command_row.Reads as command-row-reads
+use Rattle.checker.proofs.met.Reads as met-reads
+use Rattle.needs.proofs.command_need.Reads as command-need-reads
 
 abbrev Inv-loop : tie.InvT-loop
-Inv-loop file at types targets kinds n i₀ i = (i ≤ n) × ((g : Rows file at types targets kinds n (half file (at .commands))) → Passed (λ e. commandKind (routine file at) (g .marked .marking) (routine file at .command e)) i)
+Inv-loop file at types targets marking n i₀ i = (i ≤ n) × Passed (λ c. commandKind (routine file at) marking (routine file at .command c)) i
 
 abbrev μ-loop : tie.MeasureT-loop
-μ-loop file at types targets kinds n i₀ i = n - i
+μ-loop file at types targets marking n i₀ i = n - i
 
--- src/lib.rt:242:5
 loop-holds : tie.Need-loop-holds Inv-loop μ-loop
-loop-holds c = (omega arith, λ g. passed-none _)
+loop-holds c = (omega arith, passed-none _)
 
--- src/lib.rt:243:13
-command-row-requires : tie.Need-command-row-requires Inv-loop μ-loop
-command-row-requires c κs = command-asked (c .before .before .before .pre) (c .loop-test .taken)
+command-need-requires : tie.Need-command-need-requires Inv-loop μ-loop
+command-need-requires c κs = (c .before .before .before .before .pre .0 .known, omega (arith, c .loop-test .taken, c .before .before .before .before .pre .1))
 
--- src/lib.rt:244:13
-command-ok-requires : tie.Need-command-ok-requires Inv-loop μ-loop
-command-ok-requires c κs = command-given (c .before .before .before .before .pre) (c .before .loop-test .taken) (c .command-row .ensures)
+met-requires : tie.Need-met-requires Inv-loop μ-loop
+met-requires c κs = command-asked (c .before .before .before .before .before .pre .0) (omega (arith, c .before .loop-test .taken, c .before .before .before .before .before .pre .1)) (c .command-need .ensures)
 
--- src/lib.rt:245:13
 returns : tie.Need-returns Inv-loop μ-loop
-returns c = λ g. found _ _ _ (c .before .before .before .before .loop .inv .1 g) (c .before .before .before .loop-test .taken) (command-says g (c .before .before .before .loop-test .taken) (c .before .before .command-row .ensures) (c .before .command-ok .ensures) (not-true _ (c .if1 .taken)))
+returns c = found _ _ _ (c .before .before .before .before .loop .inv .1) (c .before .before .before .loop-test .taken) (command-says (c .before .before .before .before .before .before .before .pre .0) (omega (arith, c .before .before .before .loop-test .taken, c .before .before .before .before .before .before .before .pre .1)) (c .before .before .command-need .ensures) (c .before .met .ensures) (not-true _ (c .if1 .taken)))
 
--- src/lib.rt:247:9
 add-i : tie.Need-add-i Inv-loop μ-loop
-add-i c = omega (arith, c .before .before .before .before .before .before .pre .marked .known .file .commands .few, c .before .before .before .before .before .before .pre .all)
+add-i c = omega (arith, c .before .before .before .before .before .before .before .pre .0 .known .file .commands .few, c .before .before .before .before .before .before .before .pre .1)
 
--- src/lib.rt:242:5
 loop-less : tie.Need-loop-less Inv-loop μ-loop
 loop-less c = omega arith
 
--- src/lib.rt:242:5
 loop-again : tie.Need-loop-again Inv-loop μ-loop
-loop-again c = (omega arith, λ g. passed-more _ _ (c .before .before .before .before .loop .inv .1 g) (command-says g (c .before .before .before .loop-test .taken) (c .before .before .command-row .ensures) (c .before .command-ok .ensures) (not-false _ (c .if1 .left))))
+loop-again c = (omega arith, passed-more _ _ (c .before .before .before .before .loop .inv .1) (command-says (c .before .before .before .before .before .before .before .pre .0) (omega (arith, c .before .before .before .loop-test .taken, c .before .before .before .before .before .before .before .pre .1)) (c .before .before .command-need .ensures) (c .before .met .ensures) (not-false _ (c .if1 .left))))
 
--- src/lib.rt:230:1
 returns-2 : tie.Need-returns-2 Inv-loop μ-loop
-returns-2 c = λ g. found-none _ _ _ (c .before .loop .inv .1 g) (c .before .loop .inv .0) (c .loop-test .left)
+returns-2 c = found-none _ _ _ (c .before .loop .inv .1) (c .before .loop .inv .0) (c .loop-test .left)
 
 pub bad-command-spec : {M : Type 1} → statement M
 bad-command-spec =
@@ -60,8 +50,8 @@ bad-command-spec =
     Inv-loop
     μ-loop
     loop-holds
-    command-row-requires
-    command-ok-requires
+    command-need-requires
+    met-requires
     returns
     add-i
     loop-less

@@ -1,6 +1,7 @@
 -- A search: every type row passed keeps its rule.
 use Prim.Native.Nat.{suc, _≤_, _-_}
 use native.Mathlib.Omega.{arith}
+use lib.ListN.{length}
 use borrow.Author.Tests.{not-true, not-false}
 use Rattle.rules.specs.Kinds.{typeKind}
 use Rattle.checker.specs.Tables.{AllTypes}
@@ -13,40 +14,32 @@ use Rattle.checker.proofs.bad_type.Lts as lts
 use Rattle.checker.proofs.type_ok.Reads as type-ok-reads
 
 abbrev Inv-loop : tie.InvT-loop
-Inv-loop targets kinds n i₀ i = (i ≤ n) × ((g : AllTypes targets kinds n) → Passed (λ j. typeKind (g .routine) (g .marking) (suc j)) i)
+Inv-loop targets marking i₀ i = (i ≤ length marking) × ((g : AllTypes targets marking) → Passed (λ j. typeKind (g .routine) marking (suc j)) i)
 
 abbrev μ-loop : tie.MeasureT-loop
-μ-loop targets kinds n i₀ i = n - i
+μ-loop targets marking i₀ i = length marking - i
 
--- src/lib.rt:134:5
 loop-holds : tie.Need-loop-holds Inv-loop μ-loop
 loop-holds c = (omega arith, λ g. passed-none _)
 
--- src/lib.rt:135:37
 add-type-ok : tie.Need-add-type-ok Inv-loop μ-loop
-add-type-ok c = omega (arith, c .before .before .pre .tables .few, c .before .before .pre .count)
+add-type-ok c = omega (arith, c .before .before .before .pre .tables .few, c .before .before .before .pre .tables .size)
 
--- src/lib.rt:135:13
 type-ok-requires : tie.Need-type-ok-requires Inv-loop μ-loop
-type-ok-requires c κs = one-of (c .before .before .pre) (c .loop-test .taken)
+type-ok-requires c κs = one-of (c .before .before .before .pre) (c .loop-test .taken)
 
--- src/lib.rt:136:13
 returns : tie.Need-returns Inv-loop μ-loop
 returns c = λ g. found _ _ _ (c .before .before .before .loop .inv .1 g) (c .before .before .loop-test .taken) (type-says g (c .before .before .loop-test .taken) (c .before .type-ok .ensures) (not-true _ (c .if1 .taken)))
 
--- src/lib.rt:138:9
 add-i : tie.Need-add-i Inv-loop μ-loop
-add-i c = omega (arith, c .before .before .before .before .pre .tables .few, c .before .before .before .before .pre .count)
+add-i c = omega (arith, c .before .before .before .before .before .pre .tables .few, c .before .before .before .before .before .pre .tables .size)
 
--- src/lib.rt:134:5
 loop-less : tie.Need-loop-less Inv-loop μ-loop
 loop-less c = omega arith
 
--- src/lib.rt:134:5
 loop-again : tie.Need-loop-again Inv-loop μ-loop
 loop-again c = (omega arith, λ g. passed-more _ _ (c .before .before .before .loop .inv .1 g) (type-says g (c .before .before .loop-test .taken) (c .before .type-ok .ensures) (not-false _ (c .if1 .left))))
 
--- src/lib.rt:129:1
 returns-2 : tie.Need-returns-2 Inv-loop μ-loop
 returns-2 c = λ g. found-none _ _ _ (c .before .loop .inv .1 g) (c .before .loop .inv .0) (c .loop-test .left)
 

@@ -23,15 +23,15 @@ enum-told c = search needs
 
 -- src/lib.rt:380:9
 returns : tie.Need-returns
-returns c = refused-first (c .before .before .read-typed .ensures) (c .before .before .before .before .before .before .pre) (c .before .match .keys2) (c .before .before .before .before .before .before .args .marking .now)
+returns c = refused-first (c .before .before .read-typed .ensures) (c .before .match .keys2) (c .before .before .before .before .before .before .args .marking .now)
 
 -- src/lib.rt:382:5
 judge-requires : tie.Need-judge-requires
-judge-requires c κs = typed-file (c .before .before .before .before .read-typed .ensures) (c .before .before .before .before .before .before .before .before .pre) (c .before .before .read .given .1) (record { each = λ i. omega (arith, c .before .before .before .before .before .before .before .shared-slice-known .given i) })
+judge-requires c κs = typed-file (c .before .before .before .before .read-typed .ensures) (c .before .before .read .given .1) (record { each = λ i. omega (arith, c .before .before .before .before .before .before .before .shared-slice-known .given i) })
 
 -- src/lib.rt:374:1
 returns-2 : tie.Need-returns-2
-returns-2 c = judged-then (c .before .before .before .before .before .read-typed .ensures) (c .before .before .before .before .before .before .before .before .before .pre) (c .before .before .before .read .given .1) (record { each = λ i. omega (arith, c .before .before .before .before .before .before .before .before .shared-slice-known .given i) }) (c .judge .ensures)
+returns-2 c = judged-then (c .before .before .before .before .before .read-typed .ensures) (c .before .before .before .read .given .1) (record { each = λ i. omega (arith, c .before .before .before .before .before .before .before .before .shared-slice-known .given i) }) (c .judge .ensures)
 
 pub check-typed-spec : {M : Type 1} → statement M
 check-typed-spec =

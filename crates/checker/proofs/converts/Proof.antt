@@ -1,6 +1,6 @@
 -- The kinds decide, or the targets do: the two clauses of conversion.
 use borrow.Author.Tests.{not-true, not-false}
-use Rattle.checker.proofs.KindLaws.{both-small, kinds-refuse, kinds-suffice, converted-targets, targets-decide}
+use Rattle.checker.proofs.KindLaws.{kinds-refuse, kinds-suffice, converted-targets, targets-decide}
 use borrow.Author.Needs.{needs}
 use Rattle.checker.proofs.converts.Statement.{statement}
 use Rattle.checker.proofs.converts.Tie as tie
@@ -9,53 +9,44 @@ use Rattle.checker.proofs.converts.Lts as lts
 use Rattle.checker.proofs.kinds_convert.Reads as kinds-convert-reads
 use Rattle.checker.proofs.same.Reads as same-reads
 use Rattle.checker.proofs.targets_matter.Reads as targets-matter-reads
+use Rattle.needs.proofs.kind_of.Reads as kind-of-reads
 
--- src/lib.rt:69:13
-element-copy-out-a : tie.Need-element-copy-out-a
-element-copy-out-a c = search needs
+kind-of-requires : tie.Need-kind-of-requires
+kind-of-requires c κs = search needs
 
--- src/lib.rt:70:13
-element-copy-out-b : tie.Need-element-copy-out-b
-element-copy-out-b c = search needs
+kind-of-requires-2 : tie.Need-kind-of-requires-2
+kind-of-requires-2 c κs = search needs
 
--- src/lib.rt:71:9
 kinds-convert-requires : tie.Need-kinds-convert-requires
-kinds-convert-requires c κs = both-small (c .before .before .pre)
+kinds-convert-requires c κs = search needs
 
--- src/lib.rt:72:9
 returns : tie.Need-returns
-returns c = λ g. kinds-refuse g (c .before .kinds-convert .ensures) (not-true _ (c .if1 .taken))
+returns c = λ g. kinds-refuse g (c .before .before .before .kind-of .ensures) (c .before .before .kind-of2 .ensures) (c .before .kinds-convert .ensures) (not-true _ (c .if1 .taken))
 
--- src/lib.rt:74:9
 targets-matter-requires : tie.Need-targets-matter-requires
-targets-matter-requires c κs = both-small (c .before .before .before .before .pre)
+targets-matter-requires c κs = search needs
 
--- src/lib.rt:75:9
 returns-2 : tie.Need-returns-2
-returns-2 c = λ g. kinds-suffice g (c .before .before .before .kinds-convert .ensures) (not-false _ (c .before .before .if1 .left)) (c .before .targets-matter .ensures) (not-true _ (c .if2 .taken))
+returns-2 c = λ g. kinds-suffice g (c .before .before .before .before .before .kind-of .ensures) (c .before .before .before .before .kind-of2 .ensures) (c .before .before .before .kinds-convert .ensures) (not-false _ (c .before .before .if1 .left)) (c .before .targets-matter .ensures) (not-true _ (c .if2 .taken))
 
--- src/lib.rt:77:26
 element-copy-out-same : tie.Need-element-copy-out-same
 element-copy-out-same c = search needs
 
--- src/lib.rt:77:38
 element-copy-out-same-2 : tie.Need-element-copy-out-same-2
 element-copy-out-same-2 c = search needs
 
--- src/lib.rt:77:5
 same-requires : tie.Need-same-requires
-same-requires c κs = converted-targets (c .before .before .before .before .before .before .before .before .pre) (c .before .before .before .before .before .kinds-convert .ensures) (not-false _ (c .before .before .before .before .if1 .left)) (c .before .before .before .targets-matter .ensures) (not-false _ (c .before .before .if2 .left))
+same-requires c κs = converted-targets (c .before .before .before .before .before .before .before .before .before .pre) (c .before .before .before .before .before .before .before .kind-of .ensures) (c .before .before .before .before .before .before .kind-of2 .ensures) (c .before .before .before .before .before .kinds-convert .ensures) (not-false _ (c .before .before .before .before .if1 .left)) (c .before .before .before .targets-matter .ensures) (not-false _ (c .before .before .if2 .left))
 
--- src/lib.rt:63:1
 returns-3 : tie.Need-returns-3
-returns-3 c = λ g. targets-decide g (c .before .before .before .before .before .before .kinds-convert .ensures) (not-false _ (c .before .before .before .before .before .if1 .left)) (c .before .before .before .before .targets-matter .ensures) (not-false _ (c .before .before .before .if2 .left)) (c .same .ensures)
+returns-3 c = λ g. targets-decide g (c .before .before .before .before .before .before .before .before .kind-of .ensures) (c .before .before .before .before .before .before .before .kind-of2 .ensures) (c .before .before .before .before .before .before .kinds-convert .ensures) (not-false _ (c .before .before .before .before .before .if1 .left)) (c .before .before .before .before .targets-matter .ensures) (not-false _ (c .before .before .before .if2 .left)) (c .same .ensures)
 
 pub converts-spec : {M : Type 1} → statement M
 converts-spec =
     tie.close
     (tie.spec
-    element-copy-out-a
-    element-copy-out-b
+    kind-of-requires
+    kind-of-requires-2
     kinds-convert-requires
     returns
     targets-matter-requires

@@ -3,7 +3,7 @@ use mathlib.Core.Path.{ap, _∙_}
 use native.Mathlib.Omega.{arith}
 use Rattle.rules.specs.Calls.{readSays}
 use Rattle.view.specs.declared.Counts.{Counts}
-use Rattle.checker.proofs.JudgeLaws.{starts-low, all-types, all-rows, type-breaks, expr-breaks, command-breaks, none-breaks}
+use Rattle.checker.proofs.JudgeLaws.{starts-low, all-types, type-breaks, expr-breaks, command-breaks, none-breaks}
 use borrow.Author.Needs.{needs}
 use Rattle.checker.proofs.judge_rows.Statement.{statement}
 use Rattle.checker.proofs.judge_rows.Tie as tie
@@ -18,85 +18,65 @@ use Rattle.checker.proofs.refuse.Reads as refuse-reads
 use Rattle.checker.proofs.type_place.Reads as type-place-reads
 use Rattle.checker.proofs.wide.Reads as wide-reads
 
--- src/lib.rt:329:9
-wide-requires : tie.Need-wide-requires
-wide-requires c κs = search needs
-
--- src/lib.rt:330:9
 bad-type-requires : tie.Need-bad-type-requires
-bad-type-requires c κs = all-types (c .before .before .pre .0) (c .wide .ensures ∙ ap (λ (x : Counts). x .types) (c .before .before .pre .1))
+bad-type-requires c κs = search needs
 
--- src/lib.rt:332:26
 type-place-requires : tie.Need-type-place-requires
-type-place-requires c κs = (starts-low (c .before .before .before .before .pre .0 .known .file) .0, omega (arith, (c .before .before .wide .ensures ∙ ap (λ (x : Counts). x .types) (c .before .before .before .before .pre .1)), c .before .before .before .before .pre .0 .known .file .types .few))
+type-place-requires c κs = search needs
 
--- src/lib.rt:332:9
 refuse-requires : tie.Need-refuse-requires
 refuse-requires c κs = search needs
 
--- src/lib.rt:332:9
 returns : tie.Need-returns
-returns c = λ g. ap readSays (c .refuse .ensures) ∙ type-breaks g (c .before .before .before .before .wide .ensures ∙ ap (λ (x : Counts). x .types) (c .before .before .before .before .before .before .pre .1)) (c .before .before .before .bad-type .ensures (all-types g (c .before .before .before .before .wide .ensures ∙ ap (λ (x : Counts). x .types) (c .before .before .before .before .before .before .pre .1)))) (c .before .before .if1 .taken) (c .before .type-place .ensures)
+returns c = ap readSays (c .refuse .ensures) ∙ type-breaks (c .before .before .before .before .before .before .pre .0) (c .before .before .before .bad-type .ensures (all-types (c .before .before .before .before .before .before .pre .0))) (c .before .before .if1 .taken) (c .before .type-place .ensures)
 
--- src/lib.rt:334:9
-wide-requires-2 : tie.Need-wide-requires-2
-wide-requires-2 c κs = search needs
+wide-requires : tie.Need-wide-requires
+wide-requires c κs = search needs
 
--- src/lib.rt:335:9
 bad-expr-requires : tie.Need-bad-expr-requires
-bad-expr-requires c κs = all-rows (c .before .before .before .before .before .pre .0) (c .wide2 .ensures ∙ ap (λ (x : Counts). x .exprs) (c .before .before .before .before .before .pre .1))
+bad-expr-requires c κs = (c .before .before .before .before .before .pre .0, c .wide .ensures ∙ ap (λ (x : Counts). x .exprs) (c .before .before .before .before .before .pre .1))
 
--- src/lib.rt:337:26
 expr-place-requires : tie.Need-expr-place-requires
-expr-place-requires c κs = (starts-low (c .before .before .before .before .before .before .before .pre .0 .known .file) .1, omega (arith, (c .before .before .wide2 .ensures ∙ ap (λ (x : Counts). x .exprs) (c .before .before .before .before .before .before .before .pre .1)), c .before .before .before .before .before .before .before .pre .0 .known .file .exprs .few))
+expr-place-requires c κs = (starts-low (c .before .before .before .before .before .before .before .pre .0 .known .file) .1, omega (arith, (c .before .before .wide .ensures ∙ ap (λ (x : Counts). x .exprs) (c .before .before .before .before .before .before .before .pre .1)), c .before .before .before .before .before .before .before .pre .0 .known .file .exprs .few))
 
--- src/lib.rt:337:9
 refuse-requires-2 : tie.Need-refuse-requires-2
 refuse-requires-2 c κs = search needs
 
--- src/lib.rt:337:9
 returns-2 : tie.Need-returns-2
-returns-2 c = λ g. ap readSays (c .refuse2 .ensures) ∙ expr-breaks g (c .before .before .before .before .before .before .before .wide .ensures ∙ ap (λ (x : Counts). x .types) (c .before .before .before .before .before .before .before .before .before .pre .1)) (c .before .before .before .before .before .before .bad-type .ensures (all-types g (c .before .before .before .before .before .before .before .wide .ensures ∙ ap (λ (x : Counts). x .types) (c .before .before .before .before .before .before .before .before .before .pre .1)))) (c .before .before .before .before .before .if1 .left) (c .before .before .before .before .wide2 .ensures ∙ ap (λ (x : Counts). x .exprs) (c .before .before .before .before .before .before .before .before .before .pre .1)) (c .before .before .before .bad-expr .ensures (all-rows g (c .before .before .before .before .wide2 .ensures ∙ ap (λ (x : Counts). x .exprs) (c .before .before .before .before .before .before .before .before .before .pre .1)))) (c .before .before .if2 .taken) (c .before .expr-place .ensures)
+returns-2 c = ap readSays (c .refuse2 .ensures) ∙ expr-breaks (c .before .before .before .before .before .before .before .before .before .pre .0) (c .before .before .before .before .before .before .bad-type .ensures (all-types (c .before .before .before .before .before .before .before .before .before .pre .0))) (c .before .before .before .before .before .if1 .left) (c .before .before .before .before .wide .ensures ∙ ap (λ (x : Counts). x .exprs) (c .before .before .before .before .before .before .before .before .before .pre .1)) (c .before .before .before .bad-expr .ensures) (c .before .before .if2 .taken) (c .before .expr-place .ensures)
 
--- src/lib.rt:339:9
-wide-requires-3 : tie.Need-wide-requires-3
-wide-requires-3 c κs = search needs
+wide-requires-2 : tie.Need-wide-requires-2
+wide-requires-2 c κs = search needs
 
--- src/lib.rt:340:9
 bad-command-requires : tie.Need-bad-command-requires
-bad-command-requires c κs = all-rows (c .before .before .before .before .before .before .before .before .pre .0) (c .wide3 .ensures ∙ ap (λ (x : Counts). x .commands) (c .before .before .before .before .before .before .before .before .pre .1))
+bad-command-requires c κs = (c .before .before .before .before .before .before .before .before .pre .0, c .wide2 .ensures ∙ ap (λ (x : Counts). x .commands) (c .before .before .before .before .before .before .before .before .pre .1))
 
--- src/lib.rt:342:26
 command-place-requires : tie.Need-command-place-requires
-command-place-requires c κs = (starts-low (c .before .before .before .before .before .before .before .before .before .before .pre .0 .known .file) .2, omega (arith, (c .before .before .wide3 .ensures ∙ ap (λ (x : Counts). x .commands) (c .before .before .before .before .before .before .before .before .before .before .pre .1)), c .before .before .before .before .before .before .before .before .before .before .pre .0 .known .file .commands .few))
+command-place-requires c κs = (starts-low (c .before .before .before .before .before .before .before .before .before .before .pre .0 .known .file) .2, omega (arith, (c .before .before .wide2 .ensures ∙ ap (λ (x : Counts). x .commands) (c .before .before .before .before .before .before .before .before .before .before .pre .1)), c .before .before .before .before .before .before .before .before .before .before .pre .0 .known .file .commands .few))
 
--- src/lib.rt:342:9
 refuse-requires-3 : tie.Need-refuse-requires-3
 refuse-requires-3 c κs = search needs
 
--- src/lib.rt:342:9
 returns-3 : tie.Need-returns-3
-returns-3 c = λ g. ap readSays (c .refuse3 .ensures) ∙ command-breaks g (c .before .before .before .before .before .before .before .before .before .before .wide .ensures ∙ ap (λ (x : Counts). x .types) (c .before .before .before .before .before .before .before .before .before .before .before .before .pre .1)) (c .before .before .before .before .before .before .before .before .before .bad-type .ensures (all-types g (c .before .before .before .before .before .before .before .before .before .before .wide .ensures ∙ ap (λ (x : Counts). x .types) (c .before .before .before .before .before .before .before .before .before .before .before .before .pre .1)))) (c .before .before .before .before .before .before .before .before .if1 .left) (c .before .before .before .before .before .before .before .wide2 .ensures ∙ ap (λ (x : Counts). x .exprs) (c .before .before .before .before .before .before .before .before .before .before .before .before .pre .1)) (c .before .before .before .before .before .before .bad-expr .ensures (all-rows g (c .before .before .before .before .before .before .before .wide2 .ensures ∙ ap (λ (x : Counts). x .exprs) (c .before .before .before .before .before .before .before .before .before .before .before .before .pre .1)))) (c .before .before .before .before .before .if2 .left) (c .before .before .before .before .wide3 .ensures ∙ ap (λ (x : Counts). x .commands) (c .before .before .before .before .before .before .before .before .before .before .before .before .pre .1)) (c .before .before .before .bad-command .ensures (all-rows g (c .before .before .before .before .wide3 .ensures ∙ ap (λ (x : Counts). x .commands) (c .before .before .before .before .before .before .before .before .before .before .before .before .pre .1)))) (c .before .before .if3 .taken) (c .before .command-place .ensures)
+returns-3 c = ap readSays (c .refuse3 .ensures) ∙ command-breaks (c .before .before .before .before .before .before .before .before .before .before .before .before .pre .0) (c .before .before .before .before .before .before .before .before .before .bad-type .ensures (all-types (c .before .before .before .before .before .before .before .before .before .before .before .before .pre .0))) (c .before .before .before .before .before .before .before .before .if1 .left) (c .before .before .before .before .before .before .before .wide .ensures ∙ ap (λ (x : Counts). x .exprs) (c .before .before .before .before .before .before .before .before .before .before .before .before .pre .1)) (c .before .before .before .before .before .before .bad-expr .ensures) (c .before .before .before .before .before .if2 .left) (c .before .before .before .before .wide2 .ensures ∙ ap (λ (x : Counts). x .commands) (c .before .before .before .before .before .before .before .before .before .before .before .before .pre .1)) (c .before .before .before .bad-command .ensures) (c .before .before .if3 .taken) (c .before .command-place .ensures)
 
--- src/lib.rt:318:1
 returns-4 : tie.Need-returns-4
-returns-4 c = λ g. none-breaks g (c .before .before .before .before .before .before .before .before .wide .ensures ∙ ap (λ (x : Counts). x .types) (c .before .before .before .before .before .before .before .before .before .before .pre .1)) (c .before .before .before .before .before .before .before .bad-type .ensures (all-types g (c .before .before .before .before .before .before .before .before .wide .ensures ∙ ap (λ (x : Counts). x .types) (c .before .before .before .before .before .before .before .before .before .before .pre .1)))) (c .before .before .before .before .before .before .if1 .left) (c .before .before .before .before .before .wide2 .ensures ∙ ap (λ (x : Counts). x .exprs) (c .before .before .before .before .before .before .before .before .before .before .pre .1)) (c .before .before .before .before .bad-expr .ensures (all-rows g (c .before .before .before .before .before .wide2 .ensures ∙ ap (λ (x : Counts). x .exprs) (c .before .before .before .before .before .before .before .before .before .before .pre .1)))) (c .before .before .before .if2 .left) (c .before .before .wide3 .ensures ∙ ap (λ (x : Counts). x .commands) (c .before .before .before .before .before .before .before .before .before .before .pre .1)) (c .before .bad-command .ensures (all-rows g (c .before .before .wide3 .ensures ∙ ap (λ (x : Counts). x .commands) (c .before .before .before .before .before .before .before .before .before .before .pre .1)))) (c .if3 .left)
+returns-4 c = none-breaks (c .before .before .before .before .before .before .before .before .before .before .pre .0) (c .before .before .before .before .before .before .before .bad-type .ensures (all-types (c .before .before .before .before .before .before .before .before .before .before .pre .0))) (c .before .before .before .before .before .before .if1 .left) (c .before .before .before .before .before .wide .ensures ∙ ap (λ (x : Counts). x .exprs) (c .before .before .before .before .before .before .before .before .before .before .pre .1)) (c .before .before .before .before .bad-expr .ensures) (c .before .before .before .if2 .left) (c .before .before .wide2 .ensures ∙ ap (λ (x : Counts). x .commands) (c .before .before .before .before .before .before .before .before .before .before .pre .1)) (c .before .bad-command .ensures) (c .if3 .left)
 
 pub judge-rows-spec : {M : Type 1} → statement M
 judge-rows-spec =
     tie.close
     (tie.spec
-    wide-requires
     bad-type-requires
     type-place-requires
     refuse-requires
     returns
-    wide-requires-2
+    wide-requires
     bad-expr-requires
     expr-place-requires
     refuse-requires-2
     returns-2
-    wide-requires-3
+    wide-requires-2
     bad-command-requires
     command-place-requires
     refuse-requires-3

@@ -1,39 +1,39 @@
--- The rule of a type row, by the kinds that the tables have for it and its target.
-use Rattle.checker.proofs.RowLaws.{kinds-small, type-decides}
+-- The rule of a type row, by the kinds of the type and of its target.
+use native.Mathlib.Omega.{arith}
+use Rattle.checker.proofs.RowLaws.{target-in, type-decides}
 use borrow.Author.Needs.{needs}
 use Rattle.checker.proofs.type_ok.Statement.{statement}
 use Rattle.checker.proofs.type_ok.Tie as tie
 use Rattle.checker.proofs.type_ok.Reads as reads
 use Rattle.checker.proofs.type_ok.Lts as lts
-use Rattle.checker.proofs.kind_of.Reads as kind-of-reads
 use Rattle.checker.proofs.spreads.Reads as spreads-reads
+use Rattle.needs.proofs.kind_of.Reads as kind-of-reads
 
--- src/lib.rt:123:13
-element-copy-out-k : tie.Need-element-copy-out-k
-element-copy-out-k c = search needs
+element-copy-out-target : tie.Need-element-copy-out-target
+element-copy-out-target c = search needs
 
--- src/lib.rt:124:28
-element-copy-out-kind-of : tie.Need-element-copy-out-kind-of
-element-copy-out-kind-of c = search needs
+cast-target : tie.Need-cast-target
+cast-target c = omega (arith, target-in (c .before .before .pre))
 
--- src/lib.rt:124:9
 kind-of-requires : tie.Need-kind-of-requires
 kind-of-requires c κs = search needs
 
--- src/lib.rt:125:5
-spreads-requires : tie.Need-spreads-requires
-spreads-requires c κs = kinds-small (c .before .before .before .pre) (c .kind-of .ensures .0)
+kind-of-requires-2 : tie.Need-kind-of-requires-2
+kind-of-requires-2 c κs = target-in (c .before .before .before .pre)
 
--- src/lib.rt:119:1
+spreads-requires : tie.Need-spreads-requires
+spreads-requires c κs = search needs
+
 returns : tie.Need-returns
-returns c = λ g. type-decides g (c .before .kind-of .ensures .0) (c .spreads .ensures)
+returns c = λ g. type-decides g (c .before .before .kind-of .ensures) (c .before .kind-of2 .ensures) (c .spreads .ensures)
 
 pub type-ok-spec : {M : Type 1} → statement M
 type-ok-spec =
     tie.close
     (tie.spec
-    element-copy-out-k
-    element-copy-out-kind-of
+    element-copy-out-target
+    cast-target
     kind-of-requires
+    kind-of-requires-2
     spreads-requires
     returns)
