@@ -1,7 +1,7 @@
 -- A loop over rows: the first i expressions and c commands are noted. Every acceptable marking follows what is noted, since the rows ask for it.
 use mathlib.Core.Path.{_≡_, refl, _∙_}
 use mathlib.Core.Bool.{true}
-use Prim.Native.Nat.{ℕ, zero, suc, _+_, _≤_, _<_, zero-le, suc-le-suc}
+use Prim.Native.Nat.{ℕ, zero, suc, _+_, _≤_, _<_, zero-le}
 use native.Mathlib.Nat.{not-suc-le-zero}
 use native.Mathlib.Decide.{ℕ-discrete}
 use native.Mathlib.Omega.{arith}
@@ -10,8 +10,7 @@ use lib.ListN.{length, getD, replicate, length-replicate, take}
 use Rattle.rules.specs.declared.Need.{Need}
 use Rattle.rules.specs.declared.Need.the-variants.{Nothing, Moving, Converting}
 use Rattle.rules.specs.Table.{Routine}
-use Rattle.rules.specs.Kinds.{kindOf, kind, notSafe, converts, exprNeed, commandNeed, Acceptable}
-use Rattle.rules.specs.Tests.{false-true}
+use Rattle.rules.specs.Kinds.{kind, notSafe, converts, exprNeed, commandNeed, Acceptable}
 use Rattle.rules.specs.Graph.{byteOf}
 use Rattle.laws.specs.Convert.{from-int, not-safe-byte}
 use Rattle.raise.specs.Marks.{at, zeros, Below, kept, Raised}

@@ -6,9 +6,8 @@ use Rattle.rules.specs.declared.Starts.{Starts}
 use Rattle.rules.specs.declared.Refusal.{Refusal}
 use Rattle.rules.specs.declared.ReadAnswer.{ReadAnswer}
 use Rattle.rules.specs.declared.ReadAnswer.the-variants as reads
-use Rattle.rules.specs.Basic.{fine}
+use Rattle.rules.specs.Basic.{fine, Bytes}
 use Rattle.rules.specs.Calls.{formed, readSays, refusal}
-use Rattle.rules.specs.Basic.{Bytes}
 use Rattle.laws.specs.Read.{formed-fine}
 use Rattle.laws.specs.Known.{formed-reading, formed-known}
 use Rattle.reader.specs.Tables.{ReadTyped}

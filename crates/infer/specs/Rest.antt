@@ -12,9 +12,8 @@ use lib.ListN.{length, getD}
 use Rattle.rules.specs.Basic.{choose}
 use Rattle.rules.specs.Kinds.{kindOf, kind, sameKind, deep, same, sameBelow}
 use Rattle.rules.specs.Tests.{false-true, parts-true, both-true, by-test}
-use Rattle.laws.specs.Convert.{kinds-equal}
+use Rattle.laws.specs.Convert.{kinds-equal, Conv, Spread}
 use Rattle.rules.specs.Graph.{byteOf}
-use Rattle.laws.specs.Convert.{Conv, Spread}
 use Rattle.laws.specs.Same.{sameKind-refl, sameKind-eq}
 use Rattle.raise.specs.Marks.{at, Below, below-trans}
 use Rattle.raise.specs.Demands.{Falls, Lists, Edge, Level, Outer, Whole}

@@ -9,7 +9,7 @@ use lib.ListN.{getD}
 use lib.Dec.{leb, ltb}
 use borrow.Author.Tests.{leb-true, ltb-true}
 use Rattle.rules.specs.declared.Starts.{Starts}
-use Rattle.rules.specs.Basic.{width, half, byte, inRange, fine}
+use Rattle.rules.specs.Basic.{width, half, byte, inRange, fine, Bytes}
 use Rattle.rules.specs.Table.{Expr, Command, Routine, layout, operatorOf, exprOf, exprAt, commandAt, routine, literal, home, cast, null, sum, read, op, skip, then, store, ifElse, while}
 use Rattle.rules.specs.Reading.{exprGood, commandGood, exprSpare, commandSpare, rowGood, rows, cells}
 use Rattle.rules.specs.Shape.{homeAt}
@@ -18,7 +18,6 @@ use Rattle.rules.specs.Valid.{Real}
 use Rattle.rules.specs.Calls.{formed, judged}
 use Rattle.rules.specs.Tests.{fine-same, false-true, parts-true, by-test, in-range, both-less}
 use Rattle.rules.specs.Tested.{kinds-acceptable, acceptable-kinds}
-use Rattle.rules.specs.Basic.{Bytes}
 use Rattle.laws.specs.WellRead.{WellRead}
 use Rattle.laws.specs.Known.{unrefused, values-good, formed-known, formed-shaped}
 use Rattle.laws.specs.Formed.{Fits, CommandFits, ValueFits, Consecutive, last, behind, Formed}

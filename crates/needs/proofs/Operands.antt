@@ -7,7 +7,6 @@ use mathlib.Core.List.{List, [], _∷_}
 use lib.ListN.{getD}
 use lib.Dec.{ltb}
 use Rattle.rules.specs.declared.Starts.{Starts}
-use Rattle.rules.specs.declared.Need.{Need}
 use Rattle.rules.specs.declared.Need.the-variants.{Nothing, Moving, Converting}
 use Rattle.rules.specs.Table.{Expr, Routine, literal, home, cast, null, sum, read, op, store, operatorOf, exprOf, commandOf, routine}
 use Rattle.rules.specs.Shape.{typeOf, commandShaped}

@@ -1,21 +1,18 @@
 -- A marking of the right length and bytes is acceptable exactly if it meets its routine's demands, so the least solution of these is the
 -- least acceptable marking. It is there because all DYNAMIC is acceptable, and there is one only, since two would be below each other.
 use mathlib.Core.Path.{_≡_, refl, sym, _∙_}
-use mathlib.Core.Bool.{Bool, true}
-use Prim.Native.Nat.{ℕ, zero, suc, _≤_, _<_, zero-le, suc-le-suc}
+use mathlib.Core.Bool.{true}
+use Prim.Native.Nat.{ℕ, zero, suc, _≤_, _<_}
 use native.Mathlib.Nat.{not-suc-le-zero, le-refl}
-use native.Mathlib.Decide.{ℕ-discrete, decLt}
+use native.Mathlib.Decide.{ℕ-discrete}
 use native.Mathlib.Omega.{arith}
 use mathlib.Core.List.{List, _++_}
-use lib.ListN.{length, getD, replicate, length-replicate, getD-replicate, List·getD-eq-default}
+use lib.ListN.{length, getD, replicate, length-replicate, getD-replicate}
 use Rattle.rules.specs.Table.{Routine}
-use Rattle.rules.specs.declared.Kind.the-variants.{int}
 use Rattle.rules.specs.declared.Need.{Need}
 use Rattle.rules.specs.declared.Need.the-variants.{Nothing, Moving, Converting}
-use Rattle.rules.specs.Kinds.{kindOf, kind, notSafe, spreads, exprNeed, commandNeed, needMet, Acceptable}
+use Rattle.rules.specs.Kinds.{kindOf, kind, spreads, exprNeed, commandNeed, needMet, Acceptable}
 use Rattle.rules.specs.Least.{Least}
-use Rattle.rules.specs.Tests.{false-true}
-use Rattle.rules.specs.Graph.{byteOf}
 use Rattle.laws.specs.Convert.{Spread, spread-of, spreads-two, two-spreads, spreads-int, not-safe-byte, byte-not-safe}
 use Rattle.laws.specs.Formed.{Formed}
 use Rattle.laws.specs.Needs.{NeedFits, expr-need-fits, command-need-fits}

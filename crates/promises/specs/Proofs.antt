@@ -4,7 +4,7 @@ use mathlib.Core.Bool.{Bool, true, false}
 use Rattle.rules.specs.declared.Value.{Value}
 use Rattle.rules.specs.declared.Value.the-variants.{Number, Pair}
 use Rattle.rules.specs.declared.Starts.{Starts}
-use Rattle.rules.specs.Basic.{Verdict, fine, refused}
+use Rattle.rules.specs.Basic.{Verdict, fine, refused, Bytes}
 use Rattle.rules.specs.Steps.{Step, entered, stored, Told, units}
 use Rattle.rules.specs.Table.{Home, Routine, routine, total}
 use Rattle.rules.specs.Shape.{homeAt}
@@ -28,7 +28,6 @@ use lib.Dec.{leb, ltb}
 use borrow.Author.Tests.{ltb-true}
 use Rattle.rules.specs.Tests.{false-true, fine-same}
 use Rattle.rules.specs.Tested.{refused-fine, passed}
-use Rattle.rules.specs.Basic.{Bytes}
 use Rattle.rules.specs.Ends.{leftAfter}
 use Rattle.promises.specs.Promises.{Safety, Spending, Prefixes, Surplus, Afterwards, MadeOfNumber, Equal, AllDynamic, Exactly, Demanded, LeastMarking, LeastExists, OneInference, SomeInference, Within, Rows}
 use Rattle.laws.specs.Values.{null-address, valid-same}

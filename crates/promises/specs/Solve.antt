@@ -13,8 +13,7 @@ use lib.Dec.{leb}
 use borrow.Author.Tests.{leb-true, le-leb}
 use Rattle.rules.specs.Basic.{choose}
 use Rattle.rules.specs.Tests.{by-test}
-use Rattle.rules.specs.Graph.{byteOf}
-use Rattle.rules.specs.Graph.{Demand, source, edge, Meets, Each}
+use Rattle.rules.specs.Graph.{byteOf, Demand, source, edge, Meets, Each}
 
 -- ---- raising
 
