@@ -21,12 +21,6 @@ use Rattle.checker.proofs.KindLaws.{lower}
 -- ---- a type row
 
 module _ {T m : List ℕ} {t : ℕ} (g : OneType T m t) where
-  pub index : t < 256
-  index = omega (arith, g .last, g .tables .few)
-
-  pub type-in : t ≤ length m
-  type-in = omega (arith, g .last, g .tables .size)
-
   pub target-in : getD T t 0 ≤ length m
   target-in = omega (arith, lower (g .tables) t (λ e. omega (arith, g .up)) (g .last), g .last, g .tables .size)
 
