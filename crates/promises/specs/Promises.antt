@@ -198,6 +198,16 @@ OneInference = (s lent : List ℕ) (x y : Left (Unit {0})) → Inferred s lent x
 abbrev pub SomeInference : Type 0
 SomeInference = (s lent : List ℕ) → Bytes s → (x : Left (Unit {0})) × Inferred s lent x
 
+-- Every marking that inference writes is accepted: its first entries, one for each type.
+abbrev pub MarksAccepted : Type 0
+MarksAccepted = (s lent : List ℕ) (x : Left (Unit {0})) → Inferred s lent x → x .answer ≡ fine tt
+    → (at : Starts) × (formed s ≡ fine at) × (judged s (take (routine s at .types) (x .lent)) ≡ fine at)
+
+-- And it refuses a well-formed file with 9 only: fewer entries are lent than the types, which the place tells.
+abbrev pub OnlyTooShort : Type 0
+OnlyTooShort = (s lent : List ℕ) (x : Left (Unit {0})) (at : Starts) (n p : ℕ) → formed s ≡ fine at → Inferred s lent x → x .answer ≡ refused n p
+    → (n ≡ 9) × (p ≡ routine s at .types) × (length lent < p)
+
 -- ---- a number gives nobody a way back
 
 -- A pointer made of a number names home 0, also after sums. Every access through it fails a check, and as SAFE it is null or fails one.
