@@ -7,6 +7,8 @@ pub mod Least
 -- Reading: the bytes that decide, and a fifth section with no rows.
 pub mod Front
 pub mod Empty
+-- The numbers of refusals.
+pub mod Numbers
 -- Runs: start values, files that stop after their commands, prefixes, lent memory.
 pub mod Given
 pub mod Stops

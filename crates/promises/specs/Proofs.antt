@@ -1,5 +1,5 @@
 -- The promises, proved. `FirstBytes` and `FirstBytesDecide` are proved in `Front`, `StartingMemory` in `Given`, `StopsAfterCommands` in `Stops`,
--- `NoRowsIsNone` in `Empty`, `Alone` in `Lent`, `Lossless` in `Answers`.
+-- `NoRowsIsNone` in `Empty`, `Alone` in `Lent`, `Lossless` in `Answers`, `Numbers` in `Numbers`.
 use mathlib.Core.Bool.{Bool, true, false}
 use Rattle.rules.specs.declared.Value.{Value}
 use Rattle.rules.specs.declared.Value.the-variants.{Number, Pair}
@@ -10,9 +10,9 @@ use Rattle.rules.specs.Table.{Home, Routine, routine, total}
 use Rattle.rules.specs.Shape.{homeAt}
 use Rattle.rules.specs.declared.Kind.the-variants.{int, SAFE, SEQ, DYNAMIC}
 use Rattle.rules.specs.Kinds.{Acceptable}
-use Rattle.rules.specs.Calls.{formed, judged, lentEnough, cellCount, outOfFuel, endingOf, stateOf, Ended, Left, orLeave, Inferred, left, marked, inferable, runnable, running}
+use Rattle.rules.specs.Calls.{formed, judged, lentEnough, cellCount, outOfFuel, failedCheck, endingOf, stateOf, Ended, Left, orLeave, reported, Inferred, left, marked, inferable, runnable, running}
 use Rattle.rules.specs.Memory.{State, put, replay, encode}
-use Rattle.rules.specs.Ruled.{Check, check1, check2, check3, gives, fails}
+use Rattle.rules.specs.Ruled.{Check, check1, check2, check3, check4, checkNumber, gives, fails}
 use Rattle.rules.specs.Values.{convert, reach}
 use Rattle.rules.specs.Run.{noFuel, failed, noRule, Ran, done, halted, freshCells, cleared, start, run}
 use Rattle.rules.specs.Valid.{InHome, Laid, ValidState}
@@ -28,8 +28,8 @@ use lib.Dec.{leb, ltb}
 use borrow.Author.Tests.{leb-false, ltb-true}
 use Rattle.rules.specs.Tests.{false-true, fine-same}
 use Rattle.rules.specs.Tested.{refused-fine, passed}
-use Rattle.rules.specs.Ends.{leftAfter}
-use Rattle.promises.specs.Promises.{Safety, Spending, Prefixes, Surplus, Afterwards, MadeOfNumber, Equal, AllDynamic, Exactly, Demanded, LeastMarking, LeastExists, OneInference, SomeInference, MarksAccepted, OnlyTooShort, Within, Rows}
+use Rattle.rules.specs.Ends.{Proper, Ends, atDone, atStop, leftAfter}
+use Rattle.promises.specs.Promises.{Safety, Spending, Prefixes, Surplus, Afterwards, MadeOfNumber, Equal, AllDynamic, Exactly, Demanded, LeastMarking, LeastExists, OneInference, SomeInference, MarksAccepted, OnlyTooShort, Regular, isDone, isFuel, isCheck, Endings, Within, Rows}
 use Rattle.laws.specs.Values.{null-address, valid-same}
 use Rattle.laws.specs.Steps.{Steps, still, enters, stores, steps-valid}
 use Rattle.laws.specs.Formed.{Formed, type-le}
@@ -154,6 +154,27 @@ afterwards s m fuel lent b =
         let safe = safety s m lent fuel at b j in
         let ok : ValidState (routine s at) m (replay w (x .steps)) = safe .valid (x .steps) [] (sym (append-nil (x .steps))) in
         valid-left (stateOf (x .answer)) (replay w (x .steps)) (safe .last) (replay-homes w (x .steps)) ok
+
+-- ---- how a run ends
+
+regular : {x : Ran} → Ends x → Regular (endingOf x)
+regular atDone = isDone
+regular (atStop Proper.fuel) = isFuel
+regular (atStop (Proper.check {c = c})) = by-check c
+  where
+    by-check : {p : ℕ} (c : Check) → Regular (failedCheck (checkNumber c) p)
+    by-check check1 = isCheck {n = 1} (omega arith) (omega arith)
+    by-check check2 = isCheck {n = 2} (omega arith) (omega arith)
+    by-check check3 = isCheck {n = 3} (omega arith) (omega arith)
+    by-check check4 = isCheck {n = 4} (omega arith) (omega arith)
+
+pub endings : Endings
+unfolding running
+endings s m fuel lent e b h = go (runnable s m lent) refl h
+  where
+    go : (v : Verdict Starts) → runnable s m lent ≡ v → orLeave v lent (λ at. reported (run (routine s at) m lent fuel)) .answer ≡ fine e → Regular (e .ending)
+    go (fine at) r h = rw (← fine-same h) (regular (safety s m lent fuel at b (runnable-judged s m lent at r) .outcome))
+    go (refused n p) r h = refused-fine h
 
 -- ---- numbers made into pointers
 
