@@ -283,6 +283,15 @@ Endings = (s m : List ℕ) (fuel : ℕ) (lent : List ℕ) (e : Ended) → Bytes 
 
 -- ---- reading
 
+-- No well-formed file is longer than 15,112 bytes, and one has them.
+pub record Longest : Type 0 where
+  pub most : (s : List ℕ) (at : Starts) → formed s ≡ fine at → length s ≤ 15112
+  pub file : List ℕ
+  pub bytes : Bytes file
+  pub at : Starts
+  pub well : formed file ≡ fine at
+  pub long : length file ≡ 15112
+
 -- The first 15,113 bytes decide what is read,
 abbrev pub FirstBytes : Type 0
 FirstBytes = (s : List ℕ) → formed s ≡ formed (take 15113 s)

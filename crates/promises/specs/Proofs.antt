@@ -1,5 +1,5 @@
 -- The promises, proved. `FirstBytes` and `FirstBytesDecide` are proved in `Front`, `StartingMemory` in `Given`, `StopsAfterCommands` in `Stops`,
--- `NoRowsIsNone` in `Empty`, `Alone` in `Lent`, `Lossless` in `Answers`, `Numbers` in `Numbers`.
+-- `NoRowsIsNone` in `Empty`, `Longest` in `Longest`, `Alone` in `Lent`, `Lossless` in `Answers`, `Numbers` in `Numbers`.
 use mathlib.Core.Bool.{Bool, true, false}
 use Rattle.rules.specs.declared.Value.{Value}
 use Rattle.rules.specs.declared.Value.the-variants.{Number, Pair}
