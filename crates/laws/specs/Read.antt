@@ -101,7 +101,7 @@ module _ {s : List ℕ} {at : Starts} (read : WellRead s at) where
   home-real zero h l = absurd (not-suc-le-zero h)
   home-real (suc g) h l = record { positive = h; exists = rw (layout-at s (at .homes + 2) 1 _ g l .1) (home-row g l .2) }
 
-  homed : (g : ℕ) → Real (routine s at .homes) g
+  pub homed : (g : ℕ) → Real (routine s at .homes) g
       → (1 ≤ homeAt (routine s at .homes) g .type) × (homeAt (routine s at .homes) g .type ≤ half s (at .types))
   homed zero y = absurd (not-suc-le-zero (y .positive))
   homed (suc g) y =

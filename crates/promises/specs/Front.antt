@@ -121,7 +121,7 @@ fifth-short (absent e) = omega arith
 fifth-short (present w e) = omega (arith, w .few)
 
 -- A file that earns none of refusals 1 to 5 has 15,112 bytes at most.
-read-short : {s : List ℕ} {at : Starts} → WellRead s at → length s ≤ 15112
+pub read-short : {s : List ℕ} {at : Starts} → WellRead s at → length s ≤ 15112
 read-short y = omega (arith, values-near y, fifth-short (y .values))
 
 -- A file is all there in its first n bytes, or both are refused, and alike.

@@ -7,7 +7,7 @@ use native.Mathlib.Decide.{ℕ-discrete}
 use native.Mathlib.Omega.{arith}
 use mathlib.Core.List.{List}
 use lib.Dec.{ltb, eqb}
-use borrow.Author.Tests.{ltb-true, eqb-true}
+use borrow.Author.Tests.{ltb-true, eqb-true, lt-ltb, le-ltb, eq-eqb}
 use Rattle.rules.specs.Table.{StartRow, Routine}
 use Rattle.rules.specs.Reading.{below}
 use Rattle.rules.specs.Shape.{homeAt}
@@ -25,7 +25,7 @@ use Rattle.laws.specs.Read.{formed-fine}
 -- ---- rows rise
 
 -- x comes before y, by home, then cell.
-data Before (x y : StartRow) : Type 0 where
+pub data Before (x y : StartRow) : Type 0 where
   lower : x .home < y .home → Before x y
   earlier : x .home ≡ y .home → x .cell < y .cell → Before x y
 
@@ -35,6 +35,11 @@ below-before x y h = go (ltb (x .home) (y .home)) refl h
     go : (b : Bool) → ltb (x .home) (y .home) ≡ b → (b || (eqb (x .home) (y .home) && ltb (x .cell) (y .cell))) ≡ true → Before x y
     go true e h = lower (ltb-true _ _ e)
     go false e h = let (p, q) = parts-true (eqb (x .home) (y .home)) _ h in earlier (eqb-true _ _ p) (ltb-true _ _ q)
+
+pub before-below : (x y : StartRow) → Before x y → below x y ≡ true
+before-below x y (lower a) = rw (lt-ltb (x .home) (y .home) a)
+before-below x y (earlier a b) =
+    rw (le-ltb (x .home) (y .home) (omega arith), eq-eqb (x .home) (y .home) a, lt-ltb (x .cell) (y .cell) b)
 
 before-trans : {x y z : StartRow} → Before x y → Before y z → Before x z
 before-trans (lower a) (lower b) = lower (omega arith)

@@ -4,9 +4,14 @@ pub mod Promises
 pub mod Solve
 pub mod Demands
 pub mod Least
--- Reading: the bytes that decide, and a fifth section with no rows.
+-- Reading: the bytes that decide, a fifth section with no rows, files that are read, the longest.
 pub mod Front
 pub mod Empty
+pub mod Reads
+pub mod Build
+pub mod Longest
+-- The numbers of refusals.
+pub mod Numbers
 -- Runs: start values, files that stop after their commands, prefixes, lent memory.
 pub mod Given
 pub mod Stops

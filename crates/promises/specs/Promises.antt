@@ -27,7 +27,7 @@ use Rattle.rules.specs.Values.{convert, reach, moved}
 use Rattle.rules.specs.Run.{Stop, noFuel, failed, noRule, Ran, done, halted, freshValue, startAddress, givenIn, cleared, start, exec, run}
 use Rattle.rules.specs.Ends.{Ends, leftAfter}
 use Rattle.rules.specs.Valid.{In, Real, InHome, Valid, ValidState}
-use Rattle.rules.specs.Calls.{formed, judged, cellCount, outOfFuel, endingOf, stateOf, Left, Ended, Inferred, checking, running, readSays, checkSays, inferSays, runSays, runnable}
+use Rattle.rules.specs.Calls.{formed, judged, cellCount, Ending, finished, outOfFuel, failedCheck, endingOf, stateOf, Left, Ended, Inferred, checking, running, readSays, checkSays, inferSays, runSays, runnable}
 use Rattle.laws.specs.Formed.{Fits, CommandFits, ValueFits}
 use Rattle.rules.specs.Graph.{Meets, Each, demands}
 
@@ -198,6 +198,16 @@ OneInference = (s lent : List ℕ) (x y : Left (Unit {0})) → Inferred s lent x
 abbrev pub SomeInference : Type 0
 SomeInference = (s lent : List ℕ) → Bytes s → (x : Left (Unit {0})) × Inferred s lent x
 
+-- Every marking that inference writes is accepted: its first entries, one for each type.
+abbrev pub MarksAccepted : Type 0
+MarksAccepted = (s lent : List ℕ) (x : Left (Unit {0})) → Inferred s lent x → x .answer ≡ fine tt
+    → (at : Starts) × (formed s ≡ fine at) × (judged s (take (routine s at .types) (x .lent)) ≡ fine at)
+
+-- And it refuses a well-formed file with 9 only: fewer entries are lent than the types, which the place tells.
+abbrev pub OnlyTooShort : Type 0
+OnlyTooShort = (s lent : List ℕ) (x : Left (Unit {0})) (at : Starts) (n p : ℕ) → formed s ≡ fine at → Inferred s lent x → x .answer ≡ refused n p
+    → (n ≡ 9) × (p ≡ routine s at .types) × (length lent < p)
+
 -- ---- a number gives nobody a way back
 
 -- A pointer made of a number names home 0, also after sums. Every access through it fails a check, and as SAFE it is null or fails one.
@@ -242,7 +252,45 @@ pub record Lossless : Type 0 where
   pub inferring : (x y : InferAnswer) → inferSays x ≡ inferSays y → x ≡ y
   pub running : (x y : RunAnswer) → runSays x ≡ runSays y → x ≡ y
 
+-- The numbers that a refusal can have (RULES 2.3).
+abbrev pub OfReading : ℕ → Type 0
+OfReading n = ((1 ≤ n) × (n ≤ 6)) ⊎ (n ≡ 10)
+
+abbrev pub OfChecking : ℕ → Type 0
+OfChecking n = ((1 ≤ n) × (n ≤ 8)) ⊎ (n ≡ 10)
+
+abbrev pub OfInference : ℕ → Type 0
+OfInference n = ((1 ≤ n) × (n ≤ 6)) ⊎ ((9 ≤ n) × (n ≤ 10))
+
+abbrev pub OfRunning : ℕ → Type 0
+OfRunning n = (1 ≤ n) × (n ≤ 10)
+
+-- Each call refuses with its numbers only. None is 0: a number 0 can say that nothing was refused.
+pub record Numbers : Type 0 where
+  pub reading : (s : List ℕ) (n p : ℕ) → formed s ≡ refused n p → OfReading n
+  pub checking : (s m : List ℕ) (n p : ℕ) → checking s m ≡ refused n p → OfChecking n
+  pub inferring : (s lent : List ℕ) (x : Left (Unit {0})) (n p : ℕ) → Inferred s lent x → x .answer ≡ refused n p → OfInference n
+  pub running : (s m : List ℕ) (fuel : ℕ) (lent : List ℕ) (n p : ℕ) → running s m fuel lent .answer ≡ refused n p → OfRunning n
+
+-- A run that is not refused is done, out of fuel, or stopped by a check 1 to 4 (RULES 6.4).
+pub data Regular : Ending → Type 0 where
+  isDone : Regular finished
+  isFuel : {p : ℕ} → Regular (outOfFuel p)
+  isCheck : {n p : ℕ} → 1 ≤ n → n ≤ 4 → Regular (failedCheck n p)
+
+abbrev pub Endings : Type 0
+Endings = (s m : List ℕ) (fuel : ℕ) (lent : List ℕ) (e : Ended) → Bytes s → running s m fuel lent .answer ≡ fine e → Regular (e .ending)
+
 -- ---- reading
+
+-- No well-formed file is longer than 15,112 bytes, and one has them.
+pub record Longest : Type 0 where
+  pub most : (s : List ℕ) (at : Starts) → formed s ≡ fine at → length s ≤ 15112
+  pub file : List ℕ
+  pub bytes : Bytes file
+  pub at : Starts
+  pub well : formed file ≡ fine at
+  pub long : length file ≡ 15112
 
 -- The first 15,113 bytes decide what is read,
 abbrev pub FirstBytes : Type 0

@@ -1,35 +1,35 @@
 -- The promises, proved. `FirstBytes` and `FirstBytesDecide` are proved in `Front`, `StartingMemory` in `Given`, `StopsAfterCommands` in `Stops`,
--- `NoRowsIsNone` in `Empty`, `Alone` in `Lent`, `Lossless` in `Answers`.
+-- `NoRowsIsNone` in `Empty`, `Longest` in `Longest`, `Alone` in `Lent`, `Lossless` in `Answers`, `Numbers` in `Numbers`.
 use mathlib.Core.Bool.{Bool, true, false}
 use Rattle.rules.specs.declared.Value.{Value}
 use Rattle.rules.specs.declared.Value.the-variants.{Number, Pair}
 use Rattle.rules.specs.declared.Starts.{Starts}
-use Rattle.rules.specs.Basic.{Verdict, fine, refused, Bytes}
+use Rattle.rules.specs.Basic.{Verdict, fine, refused, guard, Bytes}
 use Rattle.rules.specs.Steps.{Step, entered, stored, Told, units}
 use Rattle.rules.specs.Table.{Home, Routine, routine, total}
 use Rattle.rules.specs.Shape.{homeAt}
 use Rattle.rules.specs.declared.Kind.the-variants.{int, SAFE, SEQ, DYNAMIC}
 use Rattle.rules.specs.Kinds.{Acceptable}
-use Rattle.rules.specs.Calls.{formed, judged, cellCount, outOfFuel, endingOf, stateOf, Ended, Left, orLeave, Inferred, left, marked, inferable, runnable, running}
+use Rattle.rules.specs.Calls.{formed, judged, lentEnough, cellCount, outOfFuel, failedCheck, endingOf, stateOf, Ended, Left, orLeave, reported, Inferred, left, marked, inferable, runnable, running}
 use Rattle.rules.specs.Memory.{State, put, replay, encode}
-use Rattle.rules.specs.Ruled.{Check, check1, check2, check3, gives, fails}
+use Rattle.rules.specs.Ruled.{Check, check1, check2, check3, check4, checkNumber, gives, fails}
 use Rattle.rules.specs.Values.{convert, reach}
 use Rattle.rules.specs.Run.{noFuel, failed, noRule, Ran, done, halted, freshCells, cleared, start, run}
 use Rattle.rules.specs.Valid.{InHome, Laid, ValidState}
 use mathlib.Core.Path.{_≡_, refl, sym, _∙_}
 use mathlib.Core.Logic.{_⊎_, inl, inr}
-use Prim.Native.Nat.{ℕ, suc, _+_, _-_}
+use Prim.Native.Nat.{ℕ, suc, _+_, _-_, _<_}
 use native.Mathlib.Nat.{le-refl}
 use native.Mathlib.Omega.{arith}
 use mathlib.Core.List.{List, [], _∷_, _++_, append-nil}
 use lib.ListN.{length, drop}
-use lib.Seq.{drop-set-lt, drop-append-seam}
+use lib.Seq.{drop-set-lt, drop-append-seam, take-at}
 use lib.Dec.{leb, ltb}
-use borrow.Author.Tests.{ltb-true}
+use borrow.Author.Tests.{leb-false, ltb-true}
 use Rattle.rules.specs.Tests.{false-true, fine-same}
 use Rattle.rules.specs.Tested.{refused-fine, passed}
-use Rattle.rules.specs.Ends.{leftAfter}
-use Rattle.promises.specs.Promises.{Safety, Spending, Prefixes, Surplus, Afterwards, MadeOfNumber, Equal, AllDynamic, Exactly, Demanded, LeastMarking, LeastExists, OneInference, SomeInference, Within, Rows}
+use Rattle.rules.specs.Ends.{Proper, Ends, atDone, atStop, leftAfter}
+use Rattle.promises.specs.Promises.{Safety, Spending, Prefixes, Surplus, Afterwards, MadeOfNumber, Equal, AllDynamic, Exactly, Demanded, LeastMarking, LeastExists, OneInference, SomeInference, MarksAccepted, OnlyTooShort, Regular, isDone, isFuel, isCheck, Endings, Within, Rows}
 use Rattle.laws.specs.Values.{null-address, valid-same}
 use Rattle.laws.specs.Steps.{Steps, still, enters, stores, steps-valid}
 use Rattle.laws.specs.Formed.{Formed, type-le}
@@ -155,6 +155,27 @@ afterwards s m fuel lent b =
         let ok : ValidState (routine s at) m (replay w (x .steps)) = safe .valid (x .steps) [] (sym (append-nil (x .steps))) in
         valid-left (stateOf (x .answer)) (replay w (x .steps)) (safe .last) (replay-homes w (x .steps)) ok
 
+-- ---- how a run ends
+
+regular : {x : Ran} → Ends x → Regular (endingOf x)
+regular atDone = isDone
+regular (atStop Proper.fuel) = isFuel
+regular (atStop (Proper.check {c = c})) = by-check c
+  where
+    by-check : {p : ℕ} (c : Check) → Regular (failedCheck (checkNumber c) p)
+    by-check check1 = isCheck {n = 1} (omega arith) (omega arith)
+    by-check check2 = isCheck {n = 2} (omega arith) (omega arith)
+    by-check check3 = isCheck {n = 3} (omega arith) (omega arith)
+    by-check check4 = isCheck {n = 4} (omega arith) (omega arith)
+
+pub endings : Endings
+unfolding running
+endings s m fuel lent e b h = go (runnable s m lent) refl h
+  where
+    go : (v : Verdict Starts) → runnable s m lent ≡ v → orLeave v lent (λ at. reported (run (routine s at) m lent fuel)) .answer ≡ fine e → Regular (e .ending)
+    go (fine at) r h = rw (← fine-same h) (regular (safety s m lent fuel at b (runnable-judged s m lent at r) .outcome))
+    go (refused n p) r h = refused-fine h
+
 -- ---- numbers made into pointers
 
 narrow : {r : Routine} {m : List ℕ} {w : State} → ValidState r m w → (n : ℕ)
@@ -215,8 +236,15 @@ one-inference s lent x y (marked {at = at} {m = m} e l) (marked {at = at′} {m 
     let b : m ≡ m′ = least-unique l (rw a l′) in
     rw b
 
-pub some-inference : SomeInference
+-- Inference that is not refused has a well-formed file.
+inferable-formed : (s lent : List ℕ) (at : Starts) → inferable s lent ≡ fine at → formed s ≡ fine at
 unfolding inferable
+inferable-formed s lent at e =
+    let (at′, (f, k)) = unrefused (formed s) _ at e in
+    let q : at′ ≡ at = fine-same (passed (leb (routine s at′ .types) (length lent)) _ 9 _ at k .1) in
+    rw (← q) f
+
+pub some-inference : SomeInference
 some-inference s lent b = go (inferable s lent) refl
   where
     made : {at : Starts} → inferable s lent ≡ fine at → LeastMarking (routine s at) → (x : Left (Unit {0})) × Inferred s lent x
@@ -224,10 +252,30 @@ some-inference s lent b = go (inferable s lent) refl
 
     go : (v : Verdict Starts) → inferable s lent ≡ v → (x : Left (Unit {0})) × Inferred s lent x
     go (refused n p) e = (_, left e)
-    go (fine at) e =
-        let (at′, (f, k)) = unrefused (formed s) _ at e in
-        let q : at′ ≡ at = fine-same (passed (leb (routine s at′ .types) (length lent)) _ 9 _ at k .1) in
-        made e (least-marking s at b (rw q at f))
+    go (fine at) e = made e (least-marking s at b (inferable-formed s lent at e))
+
+pub marks-accepted : MarksAccepted
+marks-accepted s lent x (left e) h = refused-fine h
+marks-accepted s lent x (marked {at = at} {m = m} e l) h =
+    let f : formed s ≡ fine at = inferable-formed s lent at e in
+    let a : Acceptable (routine s at) m = l .acceptable in
+    (at, f, rw (take-at m (drop (length m) lent) (routine s at .types) (a .size)) (acceptable-judged s m f a))
+
+-- Refusal 9 tells how many entries are needed, and fewer are lent.
+too-short : (at : Starts) {n p : ℕ} (needed : ℕ) (lent : List ℕ) → lentEnough needed lent at ≡ refused n p → (n ≡ 9) × (p ≡ needed) × (length lent < p)
+too-short at {n} {p} needed lent h = go (leb needed (length lent)) refl h
+  where
+    go : (b : Bool) → leb needed (length lent) ≡ b → guard 9 needed b (λ _. fine at) ≡ refused n p → (n ≡ 9) × (p ≡ needed) × (length lent < p)
+    go true e h = refused-fine (sym h)
+    go false e h = let a : n ≡ 9 = cc in let b : p ≡ needed = cc in (a, b, omega (arith, leb-false needed (length lent) e))
+
+pub only-too-short : OnlyTooShort
+unfolding inferable
+only-too-short s lent x at n p f (left {n = k} {p = q} e) h =
+    let a : n ≡ k = cc in
+    let b : p ≡ q = cc in
+    rw (a, b) (too-short at (routine s at .types) lent (rw f at e))
+only-too-short s lent x at n p f (marked e l) h = refused-fine (sym h)
 
 pub rows : Rows
 rows s m at b j =

@@ -135,14 +135,3 @@ outcomeSays (Check n p) = failedCheck n p
 abbrev pub runSays : RunAnswer → Verdict Ended
 runSays (runs.Ran x) = fine (record { ending = outcomeSays (x .outcome); units = x .units })
 runSays (runs.Refused n) = refusal n
-
--- An outcome's number: 0 done, 1 to 4 the checks, 5 fuel. Its place, 0 where the run is done.
-abbrev pub outcomeNumber : Outcome → ℕ
-outcomeNumber Done = 0
-outcomeNumber (Fuel p) = 5
-outcomeNumber (Check n p) = n
-
-abbrev pub outcomePlace : Outcome → ℕ
-outcomePlace Done = 0
-outcomePlace (Fuel p) = p
-outcomePlace (Check n p) = p

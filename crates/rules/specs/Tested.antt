@@ -1,5 +1,5 @@
 -- The test for refusals 7 and 8 refuses exactly the markings that are not acceptable. A scan passes exactly if every row passes.
-use mathlib.Core.Path.{_≡_, refl}
+use mathlib.Core.Path.{_≡_, refl, _∙_}
 use mathlib.Core.Bool.{Bool, true, false}
 use Prim.Native.Nat.{ℕ, zero, suc, _+_, _≤_, _<_, zero-le}
 use native.Mathlib.Decide.{decLe}
@@ -38,14 +38,18 @@ none-bad number good place n go x h =
     let (a, b) = scan-fine (λ j. good j ≡ true) _ x (λ j k q. passed (good j) k number (place j) x q) 0 n go h in
     (λ j l. a j zero-le (omega arith), b)
 
+-- A scan passes where every row does.
+pub scan-passes : {X : Type 0} (judge : ℕ → (Unit {0} → Verdict X) → Verdict X) (i n : ℕ) (go : Unit {0} → Verdict X)
+    → ((j : ℕ) (k : Unit {0} → Verdict X) → i ≤ j → j < i + n → judge j k ≡ k tt) → scan judge i n go ≡ go tt
+scan-passes judge i zero go h = refl
+scan-passes judge i (suc n) go h =
+    h i _ (omega arith) (omega arith) ∙ scan-passes judge (suc i) n go (λ j k l u. h j k (omega arith) (omega arith))
+
 pub good-scan : {X : Type 0} (number : ℕ) (good : ℕ → Bool) (place : ℕ → ℕ) (i n : ℕ) (go : Unit {0} → Verdict X)
     → ((j : ℕ) → i ≤ j → j < i + n → good j ≡ true) → firstBad number good place i n go ≡ go tt
-good-scan number good place i zero go h = refl
-good-scan number good place i (suc n) go h =
-    let e : good i ≡ true = h i (omega arith) (omega arith) in
-    rw e (good-scan number good place (suc i) n go (λ j l u. h j (omega arith) (omega arith)))
+good-scan number good place i n go h = scan-passes _ i n go (λ j k l u. rw (h j l u))
 
-all-good : {X : Type 0} (number : ℕ) (good : ℕ → Bool) (place : ℕ → ℕ) (n : ℕ) (go : Unit {0} → Verdict X)
+pub all-good : {X : Type 0} (number : ℕ) (good : ℕ → Bool) (place : ℕ → ℕ) (n : ℕ) (go : Unit {0} → Verdict X)
     → ((j : ℕ) → j < n → good j ≡ true) → firstBad number good place 0 n go ≡ go tt
 all-good number good place n go h = good-scan number good place 0 n go (λ j l u. h j (omega arith))
 

@@ -12,13 +12,14 @@ abbrev pub plain : {X : Type 0} → Verdict X → Answer
 plain (fine x) = record { number = 0; place = 0 }
 plain (refused n p) = record { number = n; place = p }
 
--- An ending's number: 0 done, 1 to 4 the checks, 5 fuel. No accepted run is stuck.
+-- An ending's number: 0 done, 1 to 4 the checks, 5 fuel (RULES 6.4). No accepted run is stuck.
 abbrev pub endingNumber : Ending → ℕ
 endingNumber finished = 0
 endingNumber (outOfFuel p) = 5
 endingNumber (failedCheck n p) = n
 endingNumber (stuckAt p) = 6
 
+-- Its place, 0 where the run is done.
 abbrev pub endingPlace : Ending → ℕ
 endingPlace finished = 0
 endingPlace (outOfFuel p) = p

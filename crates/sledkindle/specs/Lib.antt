@@ -1,1 +1,3 @@
 pub mod Exports
+pub mod Promises
+pub mod Proofs
