@@ -21,10 +21,10 @@ use Rattle.rules.specs.Kinds.{kind}
 use Rattle.rules.specs.Steps.{Told}
 use Rattle.rules.specs.Memory.{State}
 use Rattle.rules.specs.Ruled.{Ruled, gives, fails, stuck, check1, check2, check3, check4}
-use Rattle.rules.specs.Values.{convert, homeValue, nullValue, moved, operated, load}
+use Rattle.rules.specs.Values.{convert, homeValue, nullValue, moved, operated}
 use Rattle.rules.specs.Run.{Answer as Answers, got, stopped, enter, answered, exprRow, eval}
 use Rattle.rules.specs.Valid.{Valid}
-use Rattle.laws.specs.Forget.{value, enter-answer, forget, cast-answer, sum-answer}
+use Rattle.laws.specs.Forget.{value, enter-answer, forget, load, cast-answer, sum-answer, read-answer}
 use Rattle.laws.specs.Depth.{eval-row}
 use Rattle.laws.specs.Formed.{Fits, ref-type, ref-kind}
 use Rattle.laws.specs.Steps.{Answers as Told-is, value as is-value, stop as is-stop}
@@ -159,10 +159,8 @@ module _ (r : Routine) (m : List ℕ) (w : State) (ev : ℕ → ℕ → Told Ans
   one-row (null t) f s h l = absurd (omega (arith, null-low (kind m t)))
   one-row (sum a b) f s h l = absurd (omega arith)
   one-row (read a) f s h l =
-      let i : exprRow r m w ev p (read a) f .answer ≡ value stopped (ev a f .answer) λ v f₁. answered p f₁ (load w (kind m (typeOf r a)) (kind m (r .target (typeOf r a))) v)
-      = simp forget in
       let n : kind m (typeOf r a) ≡ int → ⊥ = ref-kind m (typeOf r a) (ref-type (typeOf r a) s) in
-      i ∙ value-same (ev a f .answer) (λ v f₁. ap (answered p f₁) (read-rule w (kind m (typeOf r a)) (kind m (r .target (typeOf r a))) v n))
+      read-answer r m w ev p a f ∙ value-same (ev a f .answer) (λ v f₁. ap (answered p f₁) (read-rule w (kind m (typeOf r a)) (kind m (r .target (typeOf r a))) v n))
   one-row (op o a b) f s h l = absurd (omega (arith, operator-high o))
   one-row Expr.none f s h l = absurd (omega arith)
 

@@ -19,7 +19,8 @@ use Rattle.rules.specs.Kinds.{kind, isDynamic}
 use Rattle.rules.specs.Memory.{State, cell, held}
 use Rattle.rules.specs.Ruled.{Check, Ruled, gives, fails, stuck, onward, must, check2}
 use Rattle.rules.specs.Operators.{applied}
-use Rattle.rules.specs.Values.{convert, moved, operated, reachSafe, reach, fetched, load, kept}
+use Rattle.rules.specs.Values.{convert, moved, operated, reachSafe, reach, fetched, kept}
+use Rattle.laws.specs.Forget.{load}
 use Rattle.rules.specs.Valid.{In, Real, ValidAt, number, address, pair, wildPair, Holds, ValidState}
 use Rattle.rules.specs.Tests.{false-true}
 use Rattle.words.specs.Words.{accessOf, convertOf, keepOf, startIn, sizeIn, Homes, Named}

@@ -43,7 +43,7 @@ module _ (r : Routine) (m : List ℕ) where
   command-same p h Command.none w f t = refl
 
 module _ {r : Routine} (formed : Formed r) (m : List ℕ) where
-  depth : (w : State) (d d′ e f : ℕ) → e < r .exprs → e < d → e < d′ → evalBelow r m w d e f ≡ evalBelow r m w d′ e f
+  pub depth : (w : State) (d d′ e f : ℕ) → e < r .exprs → e < d → e < d′ → evalBelow r m w d e f ≡ evalBelow r m w d′ e f
   depth w zero d′ e f l h h′ = absurd (not-suc-le-zero h)
   depth w (suc d) zero e f l h h′ = absurd (not-suc-le-zero h′)
   depth w (suc d) (suc d′) e f l h h′ =

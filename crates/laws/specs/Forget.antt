@@ -5,12 +5,13 @@ use Rattle.rules.specs.declared.Value.{Value}
 use Rattle.rules.specs.Run.{Stop, noFuel, failed, noRule, Answer, got, stopped, Ran, done, halted, andThen, ruled, enter, afterwards, turns, answered, exprRow, eval, commandRow}
 use Rattle.rules.specs.Basic.{choose}
 use Rattle.rules.specs.Steps.{Told}
-use Rattle.rules.specs.Table.{Routine, cast, sum, then, store, ifElse}
+use Rattle.rules.specs.Table.{Routine, cast, sum, read, then, store, ifElse}
 use Rattle.rules.specs.Shape.{typeOf}
+use Rattle.rules.specs.declared.Kind.{Kind}
 use Rattle.rules.specs.Kinds.{kind}
-use Rattle.rules.specs.Memory.{State, put}
-use Rattle.rules.specs.Ruled.{Ruled, gives, fails, stuck}
-use Rattle.rules.specs.Values.{truth, convert, moved, reach, kept}
+use Rattle.rules.specs.Memory.{State, cell, put}
+use Rattle.rules.specs.Ruled.{Ruled, gives, fails, stuck, onward}
+use Rattle.rules.specs.Values.{truth, convert, moved, reach, fetched, kept}
 use mathlib.Core.Path.{_≡_, refl}
 use Prim.Native.Nat.{ℕ, zero, suc}
 use mathlib.Core.List.{List}
@@ -61,6 +62,15 @@ choose-answer false x y = refl
 -- All of them, for `simp`.
 pub ruleset forget = (value-answer, rule-answer, enter-answer, on-answer, choose-answer)
 
+-- A read's access and what it gives are one rule for the answer.
+abbrev pub load : State → Kind → Kind → Value → Ruled Value
+load w pointer target v = onward (reach w pointer v) λ a. fetched w pointer target (cell w a)
+
+pub rule-answered : {Y : Type 0} (p f : ℕ) (u : Ruled Y) (k : Y → Ruled Value) → rule stopped p f u (λ y. answered p f (k y)) ≡ answered p f (onward u k)
+rule-answered p f (gives y) k = refl
+rule-answered p f (fails c) k = refl
+rule-answered p f stuck k = refl
+
 -- ---- row by row: the equations that code goes by
 
 module _ (r : Routine) (m : List ℕ) where
@@ -72,6 +82,10 @@ module _ (r : Routine) (m : List ℕ) where
       → exprRow r m w ev p (sum a b) f .answer
       ≡ value stopped (ev a f .answer) λ v f₁. value stopped (ev b f₁ .answer) λ n f₂. answered p f₂ (moved v n)
   sum-answer w ev p a b f = simp forget
+
+  pub read-answer : (w : State) (ev : ℕ → ℕ → Told Answer) (p a f : ℕ) → exprRow r m w ev p (read a) f .answer
+      ≡ value stopped (ev a f .answer) λ v f₁. answered p f₁ (load w (kind m (typeOf r a)) (kind m (r .target (typeOf r a))) v)
+  read-answer w ev p a f = simp (forget, rule-answered)
 
   pub store-answer : (ex : State → ℕ → ℕ → Told Ran) (p a b : ℕ) (w : State) (f : ℕ) → commandRow r m ex p (store a b) w f .answer
       ≡ value (halted w) (eval r m w a f .answer) λ v f₁.

@@ -1,12 +1,14 @@
 -- Steps that keep memory valid, and how taking answers apart joins them.
 use Rattle.rules.specs.declared.Value.{Value}
-use Rattle.rules.specs.Run.{Stop, noFuel, failed, Answer, got, stopped, onValue, andThen, ruled, enter, answered, Ran, done, halted, onDone, afterwards, written}
-use Rattle.rules.specs.Steps.{Step, entered, stored, Told, quiet, after}
+use Rattle.rules.specs.Run.{Stop, noFuel, failed, Answer, got, stopped, onValue, andThen, ruled, enter, answered, Ran, done, halted, onDone, afterwards}
+use Rattle.rules.specs.Steps.{Step, entered, Told, quiet, after, tell}
 use Rattle.rules.specs.Table.{Routine}
-use Rattle.rules.specs.Memory.{State, put}
+use Rattle.rules.specs.Memory.{State, stepped}
 use Rattle.rules.specs.Ruled.{Ruled}
 use Rattle.rules.specs.Calls.{stateOf}
-use Rattle.rules.specs.Valid.{InHome, ValidState}
+use Rattle.rules.specs.Valid.{ValidState}
+use Rattle.rules.specs.Made.{Made}
+use mathlib.Core.Path.{_≡_, refl}
 use Prim.Native.Nat.{ℕ, zero, suc}
 use mathlib.Core.List.{List, [], _∷_, _++_}
 use Rattle.rules.specs.Ends.{Proper, fuel, check, Ends, atDone, atStop}
@@ -17,11 +19,10 @@ pub data Answers (P : Value → Type 0) : Answer → Type 0 where
   stop : {s : Stop} → Proper s → Answers P (stopped s)
 
 module _ (r : Routine) (m : List ℕ) where
+  -- Each step is made by a row, and leaves a valid state.
   pub data Steps : State → List Step → State → Type 0 where
     still : {w : State} → Steps w [] w
-    enters : {w w′ : State} {p : ℕ} {l : List Step} → Steps w l w′ → Steps w (entered p ∷ l) w′
-    stores : {w w′ : State} {a : ℕ} {v : Value} {l : List Step} → InHome (w .homes) a → ValidState r m (put w a v) → Steps (put w a v) l w′
-        → Steps w (stored a v ∷ l) w′
+    next : {w w′ : State} {s : Step} {l : List Step} → Made r m w s → ValidState r m (stepped w s) → Steps (stepped w s) l w′ → Steps w (s ∷ l) w′
 
   -- By such steps from w to the state where the answer leaves it; and Q holds of the answer.
   pub record Goes {X : Type 0} (end : X → State) (Q : X → Type 0) (w : State) (x : Told X) : Type 0 where
@@ -35,16 +36,22 @@ module _ (r : Routine) (m : List ℕ) where
   abbrev pub Executes : State → Told Ran → Type 0
   Executes w x = Goes stateOf Ends w x
 
+-- What an expression gives is known.
+answers-got : {P : Value → Type 0} (a : Answer) → Answers P a → Answers (λ v. P v × ((f : ℕ) × (a ≡ got v f))) a
+answers-got (got v f) (value h) = value (h, (f, refl))
+answers-got (stopped s) (Answers.stop h) = Answers.stop h
+
 module _ {r : Routine} {m : List ℕ} where
+  pub goes-got : {w : State} {P : Value → Type 0} {x : Told Answer} → Evaluates r m w P x → Evaluates r m w (λ v. P v × ((f : ℕ) × (x .answer ≡ got v f))) x
+  goes-got {x = x} h = record { steps = h .steps; answer = answers-got (x .answer) (h .answer) }
+
   join : {w w′ w″ : State} {l k : List Step} → Steps r m w l w′ → Steps r m w′ k w″ → Steps r m w (l ++ k) w″
   join still y = y
-  join (enters x) y = enters (join x y)
-  join (stores i o x) y = stores i o (join x y)
+  join (next i o x) y = next i o (join x y)
 
   pub steps-valid : {w w′ : State} {l : List Step} → ValidState r m w → Steps r m w l w′ → ValidState r m w′
   steps-valid ok still = ok
-  steps-valid ok (enters x) = steps-valid ok x
-  steps-valid ok (stores i o x) = steps-valid o x
+  steps-valid ok (next i o x) = steps-valid o x
 
   pub goes-answered : {w : State} {P : Value → Type 0} {u : Ruled Value} (p f : ℕ) → Ok P u → Evaluates r m w P (quiet (answered p f u))
   goes-answered p f (holds h) = record { steps = still; answer = value h }
@@ -59,8 +66,10 @@ module _ {r : Routine} {m : List ℕ} where
   pub goes-done : {w : State} {f : ℕ} → Executes r m w (quiet (done w f))
   goes-done = record { steps = still; answer = atDone }
 
-  pub goes-store : {w : State} (a : ℕ) (v : Value) (f : ℕ) → InHome (w .homes) a → ValidState r m (put w a v) → Executes r m w (written w a v f)
-  goes-store a v f i ok = record { steps = stores i ok still; answer = atDone }
+  -- A step that is told, and what follows it.
+  pub goes-tell : {X : Type 0} {end : X → State} {Q : X → Type 0} {w : State} {s : Step} {x : Told X} → Made r m w s → ValidState r m (stepped w s)
+      → Goes r m end Q (stepped w s) x → Goes r m end Q w (tell s x)
+  goes-tell i ok h = record { steps = next i ok (h .steps); answer = h .answer }
 
   -- Stops are passed upward by `stop`.
   module _ {X : Type 0} {end : X → State} {Q : X → Type 0} {w : State} {stop : Stop → X} (stops : (s : Stop) → Proper s → Goes r m end Q w (quiet (stop s))) where
@@ -79,10 +88,11 @@ module _ {r : Routine} {m : List ℕ} where
     goes-ruled p f (holds {x = y} h) i = i y h
     goes-ruled p f (checkFails {c = c}) i = stops (failed c p f) check
 
-    pub goes-enter : {k : ℕ → Told X} (p f : ℕ) → ((f′ : ℕ) → Goes r m end Q w (k f′)) → Goes r m end Q w (enter stop p f k)
+    pub goes-enter : {k : ℕ → Told X} {p : ℕ} (f : ℕ) → Made r m w (entered p) → ValidState r m w → ((f′ : ℕ) → Goes r m end Q w (k f′))
+        → Goes r m end Q w (enter stop p f k)
     unfolding enter
-    goes-enter p zero h = stops (noFuel p) fuel
-    goes-enter p (suc f) h = record { steps = enters (h f .steps); answer = h f .answer }
+    goes-enter {p = p} zero i ok h = stops (noFuel p) fuel
+    goes-enter (suc f) i ok h = goes-tell i ok (h f)
 
   pub goes-on : {w : State} {x : Told Ran} {k : State → ℕ → Told Ran} → ValidState r m w → Executes r m w x
       → ((w′ : State) (f : ℕ) → ValidState r m w′ → Executes r m w′ (k w′ f)) → Executes r m w (afterwards x k)

@@ -1,13 +1,13 @@
 -- The rows that a run enters are the fuel that it spends: for every routine, accepted or not.
 use Rattle.rules.specs.declared.Value.{Value}
 use Rattle.rules.specs.Run.{Stop, noFuel, Answer, got, stopped, onValue, andThen, ruled, enter, answered, exprRow, evalBelow, Ran, done, halted, onDone, afterwards, turns, commandRow, execBelow}
-use Rattle.rules.specs.Steps.{Step, entered, stored, Told, quiet, after, units}
+use Rattle.rules.specs.Steps.{Step, entered, looked, stored, Told, quiet, after, units}
 use Rattle.rules.specs.Table.{Expr, Command, Routine, literal, home, cast, null, sum, read, op, skip, then, store, ifElse, while}
 use Rattle.rules.specs.Shape.{typeOf}
 use Rattle.rules.specs.Kinds.{kind}
-use Rattle.rules.specs.Memory.{State}
+use Rattle.rules.specs.Memory.{State, cell}
 use Rattle.rules.specs.Ruled.{Ruled, gives, fails, stuck}
-use Rattle.rules.specs.Values.{convert, moved, load, operated}
+use Rattle.rules.specs.Values.{convert, moved, reach, fetched, operated}
 use mathlib.Core.Path.{_≡_}
 use Prim.Native.Nat.{ℕ, zero, suc, _+_, _≤_, _<_}
 use native.Mathlib.Nat.{not-suc-le-zero}
@@ -27,7 +27,8 @@ pub record Spends {X : Type 0} (left : X → ℕ) (f : ℕ) (x : Told X) : Type 
 units-append : (l k : List Step) → units (l ++ k) ≡ units l + units k
 units-append [] k = omega arith
 units-append (entered p ∷ l) k = omega (arith, units-append l k)
-units-append (stored a v ∷ l) k = units-append l k
+units-append (looked p v a ∷ l) k = units-append l k
+units-append (stored p v a x ∷ l) k = units-append l k
 
 spends-after : {X : Type 0} {left : X → ℕ} {f f₁ : ℕ} {y : Told X} (l : List Step) → units l + f₁ ≡ f → Spends left f₁ y → Spends left f (after l y)
 spends-after {y = y} l e h = record { by = rw (units-append l (y .steps)) (omega (arith, h .by)) }
@@ -85,7 +86,9 @@ module _ (r : Routine) (m : List ℕ) where
   row-spends w h p (null t) f = spends-answered p f (gives _)
   row-spends w h p (sum a b) f =
       spends-then expr-stop (h a f) (λ v f₁ l. spends-then expr-stop (h b f₁) (λ n f₂ k. spends-answered p f₂ (moved v n)))
-  row-spends w h p (read a) f = spends-then expr-stop (h a f) (λ v f₁ l. spends-answered p f₁ (load w (kind m (typeOf r a)) (kind m (r .target (typeOf r a))) v))
+  row-spends w h p (read a) f =
+      spends-then expr-stop (h a f) (λ v f₁ l. spends-ruled expr-stop p f₁ (reach w (kind m (typeOf r a)) v) (λ c.
+      spends-after (looked p v c ∷ []) (omega arith) (spends-answered p f₁ (fetched w (kind m (typeOf r a)) (kind m (r .target (typeOf r a))) (cell w c)))))
   row-spends w h p (op o a b) f =
       spends-then expr-stop (h a f) (λ v f₁ l. spends-then expr-stop (h b f₁) (λ n f₂ k. spends-answered p f₂ (operated o v n)))
   row-spends w h p Expr.none f = spends-answered p f stuck

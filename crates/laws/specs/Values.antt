@@ -10,7 +10,7 @@ use Rattle.rules.specs.declared.Kind.the-variants.{int, SAFE, SEQ, DYNAMIC}
 use Rattle.rules.specs.Kinds.{kind, same, deep, kindConverts, targetsMatter, spreads, notSafe}
 use Rattle.rules.specs.Memory.{State, held, cell}
 use Rattle.rules.specs.Ruled.{Check, check2, must, Ruled, gives, fails, onward}
-use Rattle.rules.specs.Values.{convert, reach, reachSafe, fetched, load, operated, moved, homeValue, nullValue, truth}
+use Rattle.rules.specs.Values.{convert, reach, reachSafe, fetched, operated, moved, homeValue, nullValue, truth}
 use Rattle.rules.specs.Operators.{applied, bit}
 use Rattle.rules.specs.Valid.{In, Real, Typed, Untyped, Points, ValidAt, number, address, pair, wildPair, Valid, ValidState}
 use mathlib.Core.Path.{_≡_, refl}
@@ -38,6 +38,11 @@ ok-then checkFails i = checkFails
 pub ok-map : {X : Type 0} {P Q : X → Type 0} {x : Ruled X} → Ok P x → ((v : X) → P v → Q v) → Ok Q x
 ok-map (holds {x = v} p) i = holds (i v p)
 ok-map checkFails i = checkFails
+
+-- And what it gives is known.
+pub ok-given : {X : Type 0} {P : X → Type 0} {u : Ruled X} → Ok P u → Ok (λ x. P x × (u ≡ gives x)) u
+ok-given (holds h) = holds (h, refl)
+ok-given checkFails = checkFails
 
 ok-must : {X : Type 0} {P : X → Type 0} {x : Ruled X} (c : Check) (b : Bool) → (b ≡ true → Ok P x) → Ok P (must c b x)
 ok-must c true h = h refl
@@ -181,7 +186,7 @@ module _ {r : Routine} {m : List ℕ} {w : State} (ok : ValidState r m w) where
     wild-cell : {t g a : ℕ} → Untyped r m (w .homes) g → In (homeAt (w .homes) g) a → ValidAt r m (w .homes) DYNAMIC t (cell w a)
     wild-cell y i = wild-any (ok .holds (y .real) i .wild (y .wild))
 
-    fetch-ok : {s : Kind} (s′ : Kind) {u a : ℕ} → kind m u ≡ s′ → spreads s s′ ≡ true → Spot r m (w .homes) s u a
+    pub fetch-ok : {s : Kind} (s′ : Kind) {u a : ℕ} → kind m u ≡ s′ → spreads s s′ ≡ true → Spot r m (w .homes) s u a
         → Ok (ValidAt r m (w .homes) s′ (r .target u)) (fetched w s s′ (cell w a))
     fetch-ok s′ e h y = go s′ (y .owner) (y .inside) e h
       where
@@ -193,10 +198,6 @@ module _ {r : Routine} {m : List ℕ} {w : State} (ok : ValidState r m w) where
         go SAFE (wildly o) i e h = false-true h
         go SEQ (wildly o) i e h = false-true h
         go DYNAMIC (wildly o) i e h = holds (wild-cell o i)
-
-    pub load-ok : {s s′ : Kind} {u : ℕ} {v : Value} → (s ≡ int → ⊥) → kind m u ≡ s′ → spreads s s′ ≡ true → ValidAt r m (w .homes) s u v
-        → Ok (ValidAt r m (w .homes) s′ (r .target u)) (load w s s′ v)
-    load-ok {s′ = s′} n e h y = ok-then (reach-ok n y) (λ a z. fetch-ok s′ e h z)
 
   -- ---- operators, sums, homes, nulls and conditions
 

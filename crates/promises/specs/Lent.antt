@@ -19,14 +19,15 @@ use Rattle.rules.specs.Shape.{homeAt, typeOf}
 use Rattle.rules.specs.declared.Kind.{Kind}
 use Rattle.rules.specs.declared.Kind.the-variants.{int, SAFE, SEQ, DYNAMIC}
 use Rattle.rules.specs.Kinds.{kind}
-use Rattle.rules.specs.Steps.{Step, entered, Told, quiet, after}
+use Rattle.rules.specs.Steps.{Step, entered, looked, Told, quiet, after, tell}
 use Rattle.rules.specs.Memory.{State, cell, put, encode, decode, held, size, address}
 use Rattle.rules.specs.Ruled.{Check, check2, Ruled, gives, fails, stuck, onward, must}
-use Rattle.rules.specs.Values.{convert, homeValue, reachSafe, reach, fetched, load, paired, kept}
+use Rattle.rules.specs.Values.{convert, homeValue, reachSafe, reach, fetched, paired, kept}
 use Rattle.rules.specs.Run.{Stop, Answer, got, stopped, Ran, done, halted, onValue, andThen, ruled, enter, onDone, afterwards, answered, turns, exprRow, evalBelow, commandRow, execBelow, freshCells, givenValue, cleared, given, start, run}
 use Rattle.rules.specs.Calls.{cellCount, running, runnable, reported}
 use Rattle.rules.specs.Tests.{false-true, parts-true, by-test}
 use Rattle.promises.specs.Promises.{Alone, SameRun}
+use Rattle.promises.specs.ReadSteps.{readOf}
 use Rattle.laws.specs.Formed.{Consecutive, last, behind, Formed}
 use Rattle.laws.specs.Depth.{then-same, enter-same}
 use Rattle.laws.specs.Start.{length-start}
@@ -161,12 +162,16 @@ module _ {n : ℕ} where
   kept-agree : {w z : State} → Agree n w z → (k t : Kind) (v : Value) → kept w k t v ≡ kept z k t v
   kept-agree (agree {hs = hs} {a = a} {b = b} q e) k t v = kept-same hs a b k t v
 
-  load-agree : {w z : State} → Agree n w z → (k t : Kind) (v : Value) → load w k t v ≡ load z k t v
-  load-agree (agree {hs = hs} {a = a} {b = b} q e) k t v =
-      ap (λ u. onward u (λ i. fetched (over hs a) k t (cell (over hs a) i))) (reach-same hs a b k v) ∙ go (reach (over hs b) k v) (near-reach q b k v)
+  read-agree : {w z : State} → Agree n w z → (p f : ℕ) (k t : Kind) (v : Value)
+      → ruled stopped p f (reach w k v) (readOf p f w k t v) ≡ ruled stopped p f (reach z k v) (readOf p f z k t v)
+  unfolding ruled
+  read-agree (agree {hs = hs} {a = a} {b = b} q e) p f k t v =
+      ap (λ u. ruled stopped p f u (readOf p f (over hs a) k t v)) (reach-same hs a b k v) ∙ go (reach (over hs b) k v) (near-reach q b k v)
     where
-      go : (u : Ruled ℕ) → Near n u → onward u (λ i. fetched (over hs a) k t (cell (over hs a) i)) ≡ onward u (λ i. fetched (over hs b) k t (cell (over hs b) i))
-      go (gives i) (near l) = ap (λ c. fetched (over hs a) k t c) (cell-agree (agree q e) i l) ∙ fetched-same hs a b k t (cell (over hs b) i)
+      go : (u : Ruled ℕ) → Near n u → ruled stopped p f u (readOf p f (over hs a) k t v) ≡ ruled stopped p f u (readOf p f (over hs b) k t v)
+      go (gives i) (near l) =
+          ap (λ c. tell (looked p v i) (quiet (answered p f c)))
+          (ap (λ c. fetched (over hs a) k t c) (cell-agree (agree q e) i l) ∙ fetched-same hs a b k t (cell (over hs b) i))
       go (fails c) fail = refl
       go stuck none = refl
 
@@ -179,8 +184,7 @@ module _ {n : ℕ} where
     row-agree h p (cast a t) f = then-same stopped (h a f) (λ v f₁. ap (λ u. quiet (answered p f₁ u)) (convert-agree same (kind m t) v))
     row-agree h p (null t) f = refl
     row-agree h p (sum a b) f = then-same stopped (h a f) (λ v f₁. then-same stopped (h b f₁) (λ i f₂. refl))
-    row-agree h p (read a) f =
-        then-same stopped (h a f) (λ v f₁. ap (λ u. quiet (answered p f₁ u)) (load-agree same (kind m (typeOf r a)) (kind m (r .target (typeOf r a))) v))
+    row-agree h p (read a) f = then-same stopped (h a f) (λ v f₁. read-agree same p f₁ (kind m (typeOf r a)) (kind m (r .target (typeOf r a))) v)
     row-agree h p (op o a b) f = then-same stopped (h a f) (λ v f₁. then-same stopped (h b f₁) (λ i f₂. refl))
     row-agree h p Expr.none f = refl
 

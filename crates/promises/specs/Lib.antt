@@ -12,10 +12,11 @@ pub mod Build
 pub mod Longest
 -- The numbers of refusals.
 pub mod Numbers
--- Runs: start values, files that stop after their commands, prefixes, lent memory.
+-- Runs: start values, files that stop after their commands, prefixes, reads, lent memory.
 pub mod Given
 pub mod Stops
 pub mod Prefix
+pub mod ReadSteps
 pub mod Lent
 -- The proofs of the statements.
 pub mod Answers

@@ -3,13 +3,13 @@ use mathlib.Core.Bool.{Bool, true, false}
 use Rattle.rules.specs.declared.Value.{Value}
 use Rattle.rules.specs.Run.{Stop, noFuel, failed, noRule, Answer, got, stopped, onValue, andThen, ruled, enter, answered, exprRow, evalBelow, Ran, done, halted, onDone, afterwards, turns, commandRow, execBelow}
 use Rattle.rules.specs.Basic.{choose}
-use Rattle.rules.specs.Steps.{Step, entered, Told, quiet, after, units}
+use Rattle.rules.specs.Steps.{Step, entered, looked, Told, quiet, after, units}
 use Rattle.rules.specs.Table.{Expr, Command, Routine, literal, home, cast, null, sum, read, op, skip, then, store, ifElse, while}
 use Rattle.rules.specs.Shape.{typeOf}
 use Rattle.rules.specs.Kinds.{kind}
-use Rattle.rules.specs.Memory.{State}
+use Rattle.rules.specs.Memory.{State, cell}
 use Rattle.rules.specs.Ruled.{Ruled, gives, fails, stuck}
-use Rattle.rules.specs.Values.{truth, convert, reach, kept, moved, load, operated}
+use Rattle.rules.specs.Values.{truth, convert, reach, fetched, kept, moved, operated}
 use mathlib.Core.Path.{_≡_, refl, sym, ap, _∙_}
 use Prim.Native.Nat.{ℕ, zero, suc, _+_, _≤_, _<_}
 use native.Mathlib.Nat.{not-suc-le-zero, zero-add, suc-add}
@@ -110,7 +110,9 @@ module _ (d : ℕ) where
     row-longer w s h p (sum a b) f =
         longer-then d stops (λ _. cut) _ _ (s a f) (h a f) (λ v f₁ l. longer-then d stops (λ _. cut) _ _ (s b f₁) (h b f₁) (λ n f₂ k. longer-answered p f₂ (moved v n)))
     row-longer w s h p (read a) f =
-        longer-then d stops (λ _. cut) _ _ (s a f) (h a f) (λ v f₁ l. longer-answered p f₁ (load w (kind m (typeOf r a)) (kind m (r .target (typeOf r a))) v))
+        longer-then d stops (λ _. cut) _ _ (s a f) (h a f) (λ v f₁ l.
+        longer-ruled d stops (λ _. cut) _ _ p f₁ (reach w (kind m (typeOf r a)) v) (λ c.
+        longer-after (looked p v c ∷ []) (longer-answered p f₁ (fetched w (kind m (typeOf r a)) (kind m (r .target (typeOf r a))) (cell w c)))))
     row-longer w s h p (op o a b) f =
         longer-then d stops (λ _. cut) _ _ (s a f) (h a f) (λ v f₁ l. longer-then d stops (λ _. cut) _ _ (s b f₁) (h b f₁) (λ n f₂ k. longer-answered p f₂ (operated o v n)))
     row-longer w s h p Expr.none f = longer-answered p f stuck

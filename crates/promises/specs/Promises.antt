@@ -13,21 +13,22 @@ use Rattle.rules.specs.declared.CheckAnswer.{CheckAnswer}
 use Rattle.rules.specs.declared.InferAnswer.{InferAnswer}
 use Rattle.rules.specs.declared.RunAnswer.{RunAnswer}
 use Rattle.rules.specs.Basic.{Bytes, half, width, fine, refused, unlessRefused}
-use Rattle.rules.specs.Table.{Routine, routine, null}
+use Rattle.rules.specs.Table.{Routine, routine, null, read}
 use Rattle.rules.specs.Reading.{cells, sections, reading, rises}
 use Rattle.rules.specs.declared.Kind.{Kind}
 use Rattle.rules.specs.declared.Kind.the-variants.{SAFE}
 use Rattle.rules.specs.Kinds.{kind, notSafe, sameBelow, same, typeKind, exprKind, commandKind, Acceptable}
 use Rattle.rules.specs.Shape.{homeAt, typeOf, exprShaped, commandShaped, valueShaped, shape}
 use Rattle.rules.specs.Least.{Least}
-use Rattle.rules.specs.Steps.{Step, entered, stored, Told, units}
+use Rattle.rules.specs.Steps.{Step, entered, looked, stored, Told, units}
 use Rattle.rules.specs.Memory.{State, cell, replay}
 use Rattle.rules.specs.Ruled.{Check, check2, gives, fails}
-use Rattle.rules.specs.Values.{convert, reach, moved}
-use Rattle.rules.specs.Run.{Stop, noFuel, failed, noRule, Ran, done, halted, freshValue, startAddress, givenIn, cleared, start, exec, run}
+use Rattle.rules.specs.Values.{convert, reach, moved, fetched}
+use Rattle.rules.specs.Run.{Stop, noFuel, failed, noRule, got, Ran, done, halted, freshValue, startAddress, givenIn, cleared, start, eval, exec, run}
 use Rattle.rules.specs.Ends.{Ends, leftAfter}
 use Rattle.rules.specs.Valid.{In, Real, InHome, Valid, ValidState}
 use Rattle.rules.specs.Calls.{formed, judged, cellCount, Ending, finished, outOfFuel, failedCheck, endingOf, stateOf, Left, Ended, Inferred, checking, running, readSays, checkSays, inferSays, runSays, runnable}
+use Rattle.rules.specs.Made.{Made}
 use Rattle.laws.specs.Formed.{Fits, CommandFits, ValueFits}
 use Rattle.rules.specs.Graph.{Meets, Each, demands}
 
@@ -58,8 +59,12 @@ pub data Longer {X : Type 0} (more : X → X) (out : ℕ → X → Type 0) (x y 
 pub record Safe (r : Routine) (m : List ℕ) (w : State) (x : Told Ran) : Type 0 where
   -- It ends in done, fuel or a check 1 to 4: it is never stuck.
   pub outcome : Ends (x .answer)
-  -- It never stores outside the homes.
-  pub inside : (before after : List Step) (a : ℕ) (v : Value) → x .steps ≡ before ++ stored a v ∷ after → InHome (replay w before .homes) a
+  -- It never reads and never stores outside the homes.
+  pub looks : (before after : List Step) (p : ℕ) (v : Value) (a : ℕ) → x .steps ≡ before ++ looked p v a ∷ after → InHome (replay w before .homes) a
+  pub stores : (before after : List Step) (p : ℕ) (v : Value) (a : ℕ) (u : Value) → x .steps ≡ before ++ stored p v a u ∷ after
+      → InHome (replay w before .homes) a
+  -- Every step is made by the row that is at its place; a read and a store reach their cell through that row's pointer.
+  pub made : (before after : List Step) (s : Step) → x .steps ≡ before ++ s ∷ after → Made r m (replay w before) s
   -- At the start, and after every step, each cell holds a value valid for its home.
   pub valid : (before after : List Step) → x .steps ≡ before ++ after → ValidState r m (replay w before)
   -- And its memory is as after the last store.
@@ -86,6 +91,18 @@ pub record Leaves (s m : List ℕ) (fuel : ℕ) (lent : List ℕ) : Type 0 where
 
 abbrev pub Afterwards : Type 0
 Afterwards = (s m : List ℕ) (fuel : ℕ) (lent : List ℕ) → Bytes s → Leaves s m fuel lent
+
+-- A read that gives a value tells last where it looks, and gives what that cell holds: for every routine, accepted or not.
+pub record Looks (r : Routine) (m : List ℕ) (w : State) (e a : ℕ) (x : Value) (l : List Step) : Type 0 where
+  pub before : List Step
+  pub pointer : Value
+  pub address : ℕ
+  pub told : l ≡ before ++ looked (r .exprPlace e) pointer address ∷ []
+  pub holds : fetched w (kind m (typeOf r a)) (kind m (r .target (typeOf r a))) (cell w address) ≡ gives x
+
+abbrev pub ReadsTold : Type 0
+ReadsTold = (r : Routine) (m : List ℕ) (w : State) (e a f : ℕ) (x : Value) (left : ℕ) → r .expr e ≡ read a → eval r m w e f .answer ≡ got x left
+    → Looks r m w e a x (eval r m w e f .steps)
 
 -- ---- the starting memory
 

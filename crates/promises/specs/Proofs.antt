@@ -1,21 +1,22 @@
 -- The promises, proved. `FirstBytes` and `FirstBytesDecide` are proved in `Front`, `StartingMemory` in `Given`, `StopsAfterCommands` in `Stops`,
--- `NoRowsIsNone` in `Empty`, `Longest` in `Longest`, `Alone` in `Lent`, `Lossless` in `Answers`, `Numbers` in `Numbers`.
+-- `NoRowsIsNone` in `Empty`, `Longest` in `Longest`, `Alone` in `Lent`, `ReadsTold` in `ReadSteps`, `Lossless` in `Answers`, `Numbers` in `Numbers`.
 use mathlib.Core.Bool.{Bool, true, false}
 use Rattle.rules.specs.declared.Value.{Value}
 use Rattle.rules.specs.declared.Value.the-variants.{Number, Pair}
 use Rattle.rules.specs.declared.Starts.{Starts}
 use Rattle.rules.specs.Basic.{Verdict, fine, refused, guard, Bytes}
-use Rattle.rules.specs.Steps.{Step, entered, stored, Told, units}
+use Rattle.rules.specs.Steps.{Step, entered, stored, Told, units, looked}
 use Rattle.rules.specs.Table.{Home, Routine, routine, total}
 use Rattle.rules.specs.Shape.{homeAt}
 use Rattle.rules.specs.declared.Kind.the-variants.{int, SAFE, SEQ, DYNAMIC}
 use Rattle.rules.specs.Kinds.{Acceptable}
 use Rattle.rules.specs.Calls.{formed, judged, lentEnough, cellCount, outOfFuel, failedCheck, endingOf, stateOf, Ended, Left, orLeave, reported, Inferred, left, marked, inferable, runnable, running}
-use Rattle.rules.specs.Memory.{State, put, replay, encode}
+use Rattle.rules.specs.Memory.{State, replay, encode, stepped}
 use Rattle.rules.specs.Ruled.{Check, check1, check2, check3, check4, checkNumber, gives, fails}
 use Rattle.rules.specs.Values.{convert, reach}
 use Rattle.rules.specs.Run.{noFuel, failed, noRule, Ran, done, halted, freshCells, cleared, start, run}
 use Rattle.rules.specs.Valid.{InHome, Laid, ValidState}
+use Rattle.rules.specs.Made.{Made, entersExpr, entersCommand, looks, stores}
 use mathlib.Core.Path.{_≡_, refl, sym, _∙_}
 use mathlib.Core.Logic.{_⊎_, inl, inr}
 use Prim.Native.Nat.{ℕ, suc, _+_, _-_, _<_}
@@ -31,7 +32,7 @@ use Rattle.rules.specs.Tested.{refused-fine, passed}
 use Rattle.rules.specs.Ends.{Proper, Ends, atDone, atStop, leftAfter}
 use Rattle.promises.specs.Promises.{Safety, Spending, Prefixes, Surplus, Afterwards, MadeOfNumber, Equal, AllDynamic, Exactly, Demanded, LeastMarking, LeastExists, OneInference, SomeInference, MarksAccepted, OnlyTooShort, Regular, isDone, isFuel, isCheck, Endings, Within, Rows}
 use Rattle.laws.specs.Values.{null-address, valid-same}
-use Rattle.laws.specs.Steps.{Steps, still, enters, stores, steps-valid}
+use Rattle.laws.specs.Steps.{Steps, still, next, steps-valid}
 use Rattle.laws.specs.Formed.{Formed, type-le}
 use Rattle.laws.specs.Sound.{exec-ok}
 use Rattle.laws.specs.Units.{exec-spends}
@@ -46,16 +47,20 @@ use Rattle.promises.specs.Least.{acceptable-meets, meets-acceptable, lea
 module _ {r : Routine} {m : List ℕ} where
   split : {w w′ : State} {k : List Step} (l : List Step) → Steps r m w (l ++ k) w′ → Steps r m w l (replay w l) × Steps r m (replay w l) k w′
   split [] x = (still, x)
-  split (entered p ∷ l) (enters x) = let (a, b) = split l x in (enters a, b)
-  split (stored a v ∷ l) (stores i o x) = let (y, z) = split l x in (stores i o y, z)
+  split (s ∷ l) (next i o x) = let (y, z) = split l x in (next i o y, z)
 
   ends : {w w′ : State} {l : List Step} → Steps r m w l w′ → w′ ≡ replay w l
   ends still = refl
-  ends (enters x) = ends x
-  ends (stores i o x) = ends x
+  ends (next i o x) = ends x
 
-  in-home : {w w′ : State} {a : ℕ} {v : Value} {l : List Step} → Steps r m w (stored a v ∷ l) w′ → InHome (w .homes) a
-  in-home (stores i o x) = i
+  first : {w w′ : State} {s : Step} {l : List Step} → Steps r m w (s ∷ l) w′ → Made r m w s
+  first (next i o x) = i
+
+  look-inside : {w : State} {p : ℕ} {v : Value} {a : ℕ} → Made r m w (looked p v a) → InHome (w .homes) a
+  look-inside (looks l e x) = x .inside
+
+  store-inside : {w : State} {p : ℕ} {v : Value} {a : ℕ} {u : Value} → Made r m w (stored p v a u) → InHome (w .homes) a
+  store-inside (stores l e x h k) = x .inside
 
 -- Nothing is left where the fuel is out.
 none-left : (a : Ran) (p : ℕ) → endingOf a ≡ outOfFuel p → leftAfter a ≡ 0
@@ -73,9 +78,14 @@ safety s m lent fuel at b j =
     let (f, k) = accepted b j in
     let ok = start-ok (routine s at) m f lent in
     let x = exec-ok f k (routine s at .commands - 1) fuel (omega (arith, f .some)) ok in
+    let made : (before after : List Step) (t : Step) → run (routine s at) m lent fuel .steps ≡ before ++ t ∷ after
+    → Made (routine s at) m (replay (start (routine s at) m lent) before) t
+    = λ before after t e. first (split before (rw e at (x .steps)) .1) in
     record {
       outcome = x .answer;
-      inside = λ before after a v e. in-home (split before (rw e at (x .steps)) .1);
+      looks = λ before after p v a e. look-inside (made before after _ e);
+      stores = λ before after p v a u e. store-inside (made before after _ e);
+      made = made;
       valid = λ before after e. steps-valid ok (split before (rw e at (x .steps)) .0);
       last = ends (x .steps);
     }
@@ -96,9 +106,12 @@ within r m lent fuel = record { most = omega (arith, spending r m lent fuel); al
 
 past : {r : Routine} {m : List ℕ} {w w′ : State} {l : List Step} (n : ℕ) → Laid r n (w .homes) → Steps r m w l w′ → drop n (w′ .memory) ≡ drop n (w .memory)
 past n laid still = refl
-past n laid (enters x) = past n laid x
-past n laid (stores {w = w} {a = a} {v = v} i o x) =
-    past n laid x ∙ drop-set-lt n (w .memory) (a - 1) (encode v) (omega (arith, laid .low (i .real), laid .high (i .real), i .inside .from, i .inside .to))
+past n laid (next (entersExpr l) o x) = past n laid x
+past n laid (next (entersCommand l) o x) = past n laid x
+past n laid (next (looks l e y) o x) = past n laid x
+past n laid (next {w = w} (stores {c = c} {x = v} l e y h k) o x) =
+    let i = y .inside in
+    past n laid x ∙ drop-set-lt n (w .memory) (c - 1) (encode v) (omega (arith, laid .low (i .real), laid .high (i .real), i .inside .from, i .inside .to))
 
 pub surplus : Surplus
 surplus s m lent fuel at b j =
@@ -116,7 +129,8 @@ surplus s m lent fuel at b j =
 replay-homes : (w : State) (l : List Step) → replay w l .homes ≡ w .homes
 replay-homes w [] = refl
 replay-homes w (entered p ∷ l) = replay-homes w l
-replay-homes w (stored a v ∷ l) = replay-homes (put w a v) l
+replay-homes w (looked p v a ∷ l) = replay-homes w l
+replay-homes w (stored p v a u ∷ l) = replay-homes (stepped w (stored p v a u)) l
 
 -- A run that is not refused was judged.
 runnable-judged : (s m lent : List ℕ) (at : Starts) → runnable s m lent ≡ fine at → judged s m ≡ fine at

@@ -14,6 +14,7 @@ pub mod Values
 pub mod Run
 pub mod Ends
 pub mod Valid
+pub mod Made
 pub mod Calls
 pub mod Tests
 pub mod Tested

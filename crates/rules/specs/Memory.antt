@@ -9,7 +9,7 @@ use Rattle.rules.specs.declared.Value.the-variants.{Number, Pair}
 use Rattle.rules.specs.Basic.{width}
 use Rattle.rules.specs.Table.{Home}
 use Rattle.rules.specs.Shape.{homeAt}
-use Rattle.rules.specs.Steps.{Step, entered, stored}
+use Rattle.rules.specs.Steps.{Step, entered, looked, stored}
 
 -- The homes that there are, home 0 first, and a 64-bit entry for each cell. Surplus entries may follow.
 pub record State : Type 0 where
@@ -46,8 +46,12 @@ abbrev pub held : List Home → ℕ → Bool
 held [] a = false
 held (h ∷ hs) a = (leb (h .start) a && ltb a (h .start + h .size)) || held hs a
 
--- The state after these steps' stores.
+-- The state after a step: only a store changes it. And after these steps.
+abbrev pub stepped : State → Step → State
+stepped w (entered p) = w
+stepped w (looked p v a) = w
+stepped w (stored p v a x) = put w a x
+
 abbrev pub replay : State → List Step → State
 replay w [] = w
-replay w (entered p ∷ l) = replay w l
-replay w (stored a v ∷ l) = replay (put w a v) l
+replay w (s ∷ l) = replay (stepped w s) l

@@ -10,10 +10,10 @@ use Rattle.rules.specs.Shape.{homeAt, typeOf}
 use Rattle.rules.specs.declared.Kind.{Kind}
 use Rattle.rules.specs.declared.Kind.the-variants.{int, SAFE, SEQ, DYNAMIC}
 use Rattle.rules.specs.Kinds.{kind}
-use Rattle.rules.specs.Steps.{entered, stored, Told, quiet, after}
-use Rattle.rules.specs.Memory.{State, encode, put}
+use Rattle.rules.specs.Steps.{entered, looked, stored, Told, quiet, after, tell}
+use Rattle.rules.specs.Memory.{State, encode, cell, put}
 use Rattle.rules.specs.Ruled.{Check, Ruled, gives, fails, stuck}
-use Rattle.rules.specs.Values.{convert, homeValue, nullValue, moved, operated, truth, reach, load, kept}
+use Rattle.rules.specs.Values.{convert, homeValue, nullValue, moved, operated, truth, reach, fetched, kept}
 
 -- ---- answers
 
@@ -51,7 +51,7 @@ ruled stop p f stuck k = quiet (stop (noRule p f))
 -- RULES 6.1: the row at place p is entered for one unit. With no fuel left it is not.
 unfoldable pub enter : {X : Type 0} → (Stop → X) → ℕ → ℕ → (ℕ → Told X) → Told X
 enter stop p zero k = quiet (stop (noFuel p))
-enter stop p (suc f) k = after (entered p ∷ []) (k f)
+enter stop p (suc f) k = tell (entered p) (k f)
 
 abbrev pub onDone : Ran → (State → ℕ → Told Ran) → Told Ran
 onDone (done w f) k = k w f
@@ -81,7 +81,8 @@ module _ (r : Routine) (m : List ℕ) where
       quiet (answered p f₂ (moved v n))
   exprRow w ev p (read a) f =
       andThen stopped (ev a f) λ v f₁.
-      quiet (answered p f₁ (load w (kind m (typeOf r a)) (kind m (r .target (typeOf r a))) v))
+      ruled stopped p f₁ (reach w (kind m (typeOf r a)) v) λ c.
+      tell (looked p v c) (quiet (answered p f₁ (fetched w (kind m (typeOf r a)) (kind m (r .target (typeOf r a))) (cell w c))))
   exprRow w ev p (op o a b) f =
       andThen stopped (ev a f) λ x f₁.
       andThen stopped (ev b f₁) λ y f₂.
@@ -98,10 +99,6 @@ module _ (r : Routine) (m : List ℕ) where
   eval w e f = evalBelow w (suc e) e f
 
 -- ---- commands (RULES 6.3)
-
--- A store, which the steps tell.
-abbrev pub written : State → ℕ → Value → ℕ → Told Ran
-written w a v f = record { answer = done (put w a v) f; steps = stored a v ∷ [] }
 
 -- The turns of a while whose row has just been entered; n bounds their number.
 abbrev pub turns : ℕ → ℕ → (State → ℕ → Told Answer) → (State → ℕ → Told Ran) → State → ℕ → Told Ran
@@ -123,7 +120,7 @@ module _ (r : Routine) (m : List ℕ) where
       ruled (halted w) p f₁ (reach w (kind m (typeOf r a)) v) λ c.
       andThen (halted w) (eval r m w b f₁) λ x f₂.
       ruled (halted w) p f₂ (kept w (kind m (typeOf r a)) (kind m (r .target (typeOf r a))) x) λ y.
-      written w c y f₂
+      tell (stored p v c y) (quiet (done (put w c y) f₂))
   commandRow ex p (ifElse a b c) w f =
       andThen (halted w) (eval r m w a f) λ v f₁.
       ruled (halted w) p f₁ (truth v) λ t.

@@ -9,7 +9,7 @@ use Rattle.rules.specs.Table.{Operator}
 use Rattle.rules.specs.Shape.{homeAt}
 use Rattle.rules.specs.declared.Kind.{Kind}
 use Rattle.rules.specs.declared.Kind.the-variants.{int, SAFE, SEQ, DYNAMIC}
-use Rattle.rules.specs.Memory.{State, cell, address, size, held}
+use Rattle.rules.specs.Memory.{State, address, size, held}
 use Rattle.rules.specs.Ruled.{Ruled, gives, fails, stuck, onward, must, check1, check2, check3}
 use Rattle.rules.specs.Operators.{applied}
 
@@ -81,9 +81,6 @@ fetched w DYNAMIC int v = convert w int v
 fetched w DYNAMIC SAFE v = gives v
 fetched w DYNAMIC SEQ v = gives v
 fetched w DYNAMIC DYNAMIC v = gives v
-
-abbrev pub load : State → Kind → Kind → Value → Ruled Value
-load w pointer target v = onward (reach w pointer v) λ a. fetched w pointer target (cell w a)
 
 -- A converted value as it is stored: through DYNAMIC an int becomes a pair of home 0.
 abbrev pub paired : State → Kind → Kind → Value → Ruled Value

@@ -6,11 +6,11 @@ use mathlib.Core.List.{List}
 use Rattle.rules.specs.declared.Value.{Value}
 use Rattle.rules.specs.Steps.{Told}
 use Rattle.rules.specs.Table.{Expr, Command, Routine, literal, home, cast, null, sum, read, op, skip, then, store, ifElse, while}
-use Rattle.rules.specs.Memory.{State}
+use Rattle.rules.specs.Memory.{State, cell}
 use Rattle.rules.specs.Ruled.{Ruled, gives, fails, stuck}
 use Rattle.rules.specs.Shape.{typeOf}
 use Rattle.rules.specs.Kinds.{kind}
-use Rattle.rules.specs.Values.{convert, moved, load, operated}
+use Rattle.rules.specs.Values.{convert, moved, fetched, operated}
 use Rattle.rules.specs.Run.{Stop, noFuel, failed, noRule, Answer, got, stopped, Ran, done, halted, onValue, andThen, ruled, enter, onDone, afterwards, answered, turns, exprRow, evalBelow, eval, commandRow, execBelow, exec}
 use Rattle.rules.specs.Tests.{by-test}
 use Rattle.laws.specs.Formed.{Fits, CommandFits, Formed}
@@ -73,7 +73,9 @@ module _ (P : ℕ → Type 0) where
       row-at p e ev (sum a b) f h y i =
           then-at ValueAt stopped (λ s q. q) (ev a f) _ (i a f (y .0)) (λ v f₁.
           then-at ValueAt stopped (λ s q. q) (ev b f₁) _ (i b f₁ (y .1)) (λ n f₂. answered-at p f₂ (moved v n) h))
-      row-at p e ev (read a) f h y i = then-at ValueAt stopped (λ s q. q) (ev a f) _ (i a f y) (λ v f₁. answered-at p f₁ (load w (kind m (typeOf r a)) (kind m (r .target (typeOf r a))) v) h)
+      row-at p e ev (read a) f h y i =
+          then-at ValueAt stopped (λ s q. q) (ev a f) _ (i a f y) (λ v f₁.
+          ruled-at ValueAt stopped (λ s q. q) p f₁ _ _ h (λ c. answered-at p f₁ (fetched w (kind m (typeOf r a)) (kind m (r .target (typeOf r a))) (cell w c)) h))
       row-at p e ev (op o a b) f h y i =
           then-at ValueAt stopped (λ s q. q) (ev a f) _ (i a f (y .0)) (λ v f₁.
           then-at ValueAt stopped (λ s q. q) (ev b f₁) _ (i b f₁ (y .1)) (λ n f₂. answered-at p f₂ (operated o v n) h))
