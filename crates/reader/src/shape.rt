@@ -3,13 +3,16 @@ use super::range::both;
 use rules::ReadAnswer;
 use rules::Refusal;
 use rules::Starts;
+use view::command_place;
 use view::command_row;
+use view::expr_place;
 use view::expr_row;
 use view::home_row;
 use view::row_counts;
-use view::type_row;
 use view::start_count;
+use view::start_place;
 use view::start_row;
+use view::type_row;
 ghost use mathlib.Core.Path.{_≡_};
 ghost use mathlib.Core.Bool.{_&&_, _||_};
 ghost use Prim.Native.Nat.{_<_, _≤_};
@@ -160,9 +163,9 @@ fn place_of(at: Starts, test: Test, i: usize) -> usize
     ensures { λ r. ⌜ (r ≡ placeOf at test i) × (r ≤ 40000) ⌝ }
 {
     match test {
-        Test::Exprs => at.exprs as usize + 2 + 5 * i,
-        Test::Commands => at.commands as usize + 2 + 7 * i,
-        _ => at.values as usize + 2 + 8 * i,
+        Test::Exprs => expr_place(at, i),
+        Test::Commands => command_place(at, i),
+        _ => start_place(at, i),
     }
 }
 

@@ -10,7 +10,7 @@ use lib.ListN.{length}
 use borrow.Author.Tests.{leb-true, ltb-true}
 use Rattle.rules.specs.declared.Starts.{Starts}
 use Rattle.rules.specs.Basic.{half, inRange}
-use Rattle.rules.specs.Table.{Home, layout, exprOf, commandOf, routine}
+use Rattle.rules.specs.Table.{Home, homePlace, layout, exprOf, commandOf, routine}
 use Rattle.rules.specs.Reading.{rowGood, exprSpare, exprGood, commandSpare, commandGood}
 use Rattle.rules.specs.Shape.{homeAt}
 use Rattle.rules.specs.Tests.{parts-true, in-range}
@@ -20,7 +20,7 @@ use Rattle.view.specs.declared.ExprRow.{ExprRow}
 use Rattle.view.specs.declared.CommandRow.{CommandRow}
 use Rattle.view.specs.declared.HomeRow.{HomeRow}
 use Rattle.view.specs.declared.StartRow.{StartRow}
-use Rattle.view.specs.Rows.{homePlace, homeRow, exprRow, commandRow, startRow, HomeAsked, TypeAsked}
+use Rattle.view.specs.Rows.{homeRow, exprRow, commandRow, startRow, HomeAsked, TypeAsked}
 
 -- ---- a row's meaning
 

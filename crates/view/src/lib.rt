@@ -6,6 +6,7 @@ ghost use Prim.Native.Nat.{_+_, _≤_, _<_};
 ghost use lib.ListN.{length};
 ghost use Rattle.rules.specs.Basic.{half, word};
 ghost use Rattle.laws.specs.WellRead.{WellRead};
+ghost use Rattle.rules.specs.Table.{typePlace, homePlace, exprPlace, commandPlace, valuePlace};
 ghost use Rattle.view.specs.Rows.{typeRow, homeRow, exprRow, commandRow, startRow, countsOf, TypeAsked, HomeAsked, ExprAsked, CommandAsked, StartAsked};
 
 // A type row: the type that a reference of this type points to.
@@ -55,6 +56,48 @@ pub struct View<'a> {
     pub at: Starts,
 }
 
+// ---- the places of rows
+
+// Of type row `t`, from 1; for 0, that of the count.
+pub fn type_place(at: Starts, t: usize) -> usize
+    requires { ⌜ t < 4294967296 ⌝ }
+    ensures { λ r. ⌜ r ≡ typePlace at t ⌝ }
+{
+    at.types as usize + 2 * t
+}
+
+// Of home row `g`, from 1.
+pub fn home_place(at: Starts, g: usize) -> usize
+    requires { ⌜ (1 ≤ g) × (g < 4294967296) ⌝ }
+    ensures { λ r. ⌜ r ≡ homePlace at g ⌝ }
+{
+    at.homes as usize + 2 + 4 * (g - 1)
+}
+
+// Of expression row `e`.
+pub fn expr_place(at: Starts, e: usize) -> usize
+    requires { ⌜ e < 4294967296 ⌝ }
+    ensures { λ r. ⌜ r ≡ exprPlace at e ⌝ }
+{
+    at.exprs as usize + 2 + 5 * e
+}
+
+// Of command row `c`.
+pub fn command_place(at: Starts, c: usize) -> usize
+    requires { ⌜ c < 4294967296 ⌝ }
+    ensures { λ r. ⌜ r ≡ commandPlace at c ⌝ }
+{
+    at.commands as usize + 2 + 7 * c
+}
+
+// Of start row `i`.
+pub fn start_place(at: Starts, i: usize) -> usize
+    requires { ⌜ i < 4294967296 ⌝ }
+    ensures { λ r. ⌜ r ≡ valuePlace at i ⌝ }
+{
+    at.values as usize + 2 + 8 * i
+}
+
 // ---- the work, on the slice
 
 // A byte as a 16-bit number.
@@ -85,7 +128,7 @@ fn type_at(s: &[u8], at: Starts, t: usize) -> TypeRow
     requires { ⌜ TypeAsked (now s) at t ⌝ }
     ensures { λ r. ⌜ r ≡ typeRow (now (s .entry)) at t ⌝ }
 {
-    let q = at.types as usize + 2 * t;
+    let q = type_place(at, t);
     TypeRow {
         target: half_at(s, q),
     }
@@ -96,7 +139,7 @@ fn home_at(s: &[u8], at: Starts, g: usize) -> HomeRow
     requires { ⌜ HomeAsked (now s) at g ⌝ }
     ensures { λ r. ⌜ r ≡ homeRow (now (s .entry)) at g ⌝ }
 {
-    let q = at.homes as usize + 2 + 4 * (g - 1);
+    let q = home_place(at, g);
     HomeRow {
         ty: half_at(s, q),
         size: half_at(s, q + 2),
@@ -108,7 +151,7 @@ fn expr_at(s: &[u8], at: Starts, e: usize) -> ExprRow
     requires { ⌜ ExprAsked (now s) at e ⌝ }
     ensures { λ r. ⌜ r ≡ exprRow (now (s .entry)) at e ⌝ }
 {
-    let q = at.exprs as usize + 2 + 5 * e;
+    let q = expr_place(at, e);
     ExprRow {
         tag: s[q],
         a: half_at(s, q + 1),
@@ -121,7 +164,7 @@ fn command_at(s: &[u8], at: Starts, c: usize) -> CommandRow
     requires { ⌜ CommandAsked (now s) at c ⌝ }
     ensures { λ r. ⌜ r ≡ commandRow (now (s .entry)) at c ⌝ }
 {
-    let q = at.commands as usize + 2 + 7 * c;
+    let q = command_place(at, c);
     CommandRow {
         tag: s[q],
         a: half_at(s, q + 1),
@@ -135,7 +178,7 @@ fn start_at(s: &[u8], at: Starts, i: usize) -> StartRow
     requires { ⌜ StartAsked (now s) at i ⌝ }
     ensures { λ r. ⌜ r ≡ startRow (now (s .entry)) at i ⌝ }
 {
-    let q = at.values as usize + 2 + 8 * i;
+    let q = start_place(at, i);
     StartRow {
         home: half_at(s, q),
         cell: half_at(s, q + 2),
