@@ -9,7 +9,6 @@ use view::expr_place;
 use view::expr_row;
 use view::home_row;
 use view::row_counts;
-use view::start_count;
 use view::start_place;
 use view::start_row;
 use view::type_row;
@@ -177,7 +176,7 @@ fn count_of(file: &[u8], at: Starts, test: Test) -> usize
     match test {
         Test::Exprs => row_counts(file, at).exprs as usize,
         Test::Commands => row_counts(file, at).commands as usize,
-        _ => start_count(file, at) as usize,
+        _ => row_counts(file, at).values as usize,
     }
 }
 

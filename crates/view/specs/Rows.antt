@@ -48,7 +48,13 @@ startRow s at i = startRowAt s (valuePlace at i)
 
 abbrev pub countsOf : List ℕ → Starts → Counts
 countsOf s at =
-    record { types = half s (at .types); homes = half s (at .homes); exprs = half s (at .exprs); commands = half s (at .commands) }
+    record {
+      types = half s (at .types);
+      homes = half s (at .homes);
+      exprs = half s (at .exprs);
+      commands = half s (at .commands);
+      values = half s (at .values);
+    }
 
 -- A row of a file that was read, by a number that it has.
 pub record TypeAsked (s : List ℕ) (at : Starts) (t : ℕ) : Type 0 where

@@ -1,4 +1,4 @@
-// The view of a file that was read: its bytes and its five section starts, with one question for the rows of each section.
+// The view of a file that was read: its bytes and its five section starts, with one question for the counts and one for the rows of each section.
 // Above each question stands a function with plain parameters that makes the view and asks it; the work is done by functions on the slice.
 use rules::Starts;
 ghost use mathlib.Core.Path.{_≡_};
@@ -42,12 +42,13 @@ pub struct StartRow {
     pub value: u32,
 }
 
-// How many rows each section has, but for the start values (`start_count`).
+// How many rows each section has.
 pub struct Counts {
     pub types: u16,
     pub homes: u16,
     pub exprs: u16,
     pub commands: u16,
+    pub values: u16,
 }
 
 // The file's bytes and its five section starts.
@@ -186,33 +187,34 @@ fn start_at(s: &[u8], at: Starts, i: usize) -> StartRow
     }
 }
 
-// How many rows the four sections have that every file has.
-pub fn row_counts(file: &[u8], at: Starts) -> Counts
-    requires { ⌜ WellRead (now file) at ⌝ }
-    ensures { λ r. ⌜ r ≡ countsOf (now (file .entry)) at ⌝ }
+// How many start rows there are: none where the file stops after the commands.
+fn start_count_at(s: &[u8], at: Starts) -> u16
+    requires { ⌜ WellRead (now s) at ⌝ }
+    ensures { λ r. ⌜ r ≡ half (now (s .entry)) (at .values) ⌝ }
+{
+    let q = at.values as usize;
+    if q == s.len() {
+        return 0;
+    }
+    half_at(s, q)
+}
+
+// How many rows each section has.
+fn counts_at(s: &[u8], at: Starts) -> Counts
+    requires { ⌜ WellRead (now s) at ⌝ }
+    ensures { λ r. ⌜ r ≡ countsOf (now (s .entry)) at ⌝ }
 {
     let types = at.types as usize;
     let homes = at.homes as usize;
     let exprs = at.exprs as usize;
     let commands = at.commands as usize;
     Counts {
-        types: half_at(file, types),
-        homes: half_at(file, homes),
-        exprs: half_at(file, exprs),
-        commands: half_at(file, commands),
+        types: half_at(s, types),
+        homes: half_at(s, homes),
+        exprs: half_at(s, exprs),
+        commands: half_at(s, commands),
+        values: start_count_at(s, at),
     }
-}
-
-// How many start rows there are: none where the file stops after the commands.
-pub fn start_count(file: &[u8], at: Starts) -> u16
-    requires { ⌜ WellRead (now file) at ⌝ }
-    ensures { λ r. ⌜ r ≡ half (now (file .entry)) (at .values) ⌝ }
-{
-    let q = at.values as usize;
-    if q == file.len() {
-        return 0;
-    }
-    half_at(file, q)
 }
 
 // ---- the view
@@ -222,6 +224,14 @@ pub fn view_of<'a>(bytes: &'a [u8], at: Starts) -> View<'a>
     ensures { λ r. ⌜ (r .bytes ≡ bytes .entry) × (r .at ≡ at) ⌝ }
 {
     View { bytes, at }
+}
+
+// How many rows each section of the view's file has.
+pub fn ask_counts<'a>(v: View<'a>) -> Counts
+    requires { ⌜ WellRead (now (v .bytes)) (v .at) ⌝ }
+    ensures { λ r. ⌜ r ≡ countsOf (now (v .entry .bytes)) (v .entry .at) ⌝ }
+{
+    counts_at(v.bytes, v.at)
 }
 
 // Type row `t` of the view's file.
@@ -265,6 +275,22 @@ pub fn ask_start<'a>(v: View<'a>, i: usize) -> StartRow
 }
 
 // ---- the same questions with plain parameters
+
+// How many rows each section of a file that was read has.
+pub fn row_counts(file: &[u8], at: Starts) -> Counts
+    requires { ⌜ WellRead (now file) at ⌝ }
+    ensures { λ r. ⌜ r ≡ countsOf (now (file .entry)) at ⌝ }
+{
+    ask_counts(view_of(file, at))
+}
+
+// Of these, the start values.
+pub fn start_count(file: &[u8], at: Starts) -> u16
+    requires { ⌜ WellRead (now file) at ⌝ }
+    ensures { λ r. ⌜ r ≡ half (now (file .entry)) (at .values) ⌝ }
+{
+    row_counts(file, at).values
+}
 
 // Type row `t` of a file that was read.
 pub fn type_row(file: &[u8], at: Starts, t: usize) -> TypeRow
