@@ -200,7 +200,7 @@ fn rows_pass(file: &[u8], at: Starts, ty: &[u16; 1024], test: Test) -> ReadAnswe
 }
 
 // Whether start rows rise; then the shape of expressions, then commands, then start values.
-pub fn shaped(file: &[u8], at: Starts, ty: &[u16; 1024]) -> ReadAnswer
+pub fn tests_pass(file: &[u8], at: Starts, ty: &[u16; 1024]) -> ReadAnswer
     requires { ⌜ TypedTo (now file) at (half (now file) (at .exprs)) (now ty) ⌝ }
     ensures { λ r. ⌜ readSays r ≡ formedBehind (now (file .entry)) at ⌝ }
 {
