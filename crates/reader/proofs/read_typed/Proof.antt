@@ -1,4 +1,4 @@
--- `read_typed` meets its contract: a refusal from 1 to 5 comes first and leaves the table, or the table is filled and the shape decides. Assumes nothing.
+-- `read_typed` meets its contract: a refusal from 1 to 5 comes first and leaves the table, or the table is filled, and 10 and 6 decide. Assumes nothing.
 use Rattle.reader.proofs.Shapes.{not-read, now-known, read-typed}
 use mathlib.Core.Path.{_∙_}
 use borrow.Author.Needs.{needs}
