@@ -1,14 +1,14 @@
 -- Refusals 7 and 8 by what the searches found: one law for each way out.
 use mathlib.Core.Path.{_≡_, sym, ap, _∙_}
-use Prim.Native.Nat.{ℕ, suc, _+_, _*_, _≤_, _<_, min}
+use Prim.Native.Nat.{ℕ, suc, _+_, _≤_, _<_, min}
 use native.Mathlib.Omega.{arith}
 use mathlib.Core.List.{List}
 use lib.ListN.{length, getD}
 use lib.Dec.{leb}
 use borrow.Author.Tests.{eq-eqb, ne-eqb, leb-true}
 use Rattle.rules.specs.declared.Starts.{Starts}
-use Rattle.rules.specs.Basic.{half, fine, refused, firstBad}
-use Rattle.rules.specs.Table.{routine}
+use Rattle.rules.specs.Basic.{half, fine, refused, firstBad, Verdict}
+use Rattle.rules.specs.Table.{routine, typePlace, exprPlace, commandPlace}
 use Rattle.rules.specs.Kinds.{typeKind, exprKind, commandKind, kinds}
 use Rattle.laws.specs.WellRead.{WellRead}
 use Rattle.checker.specs.First.{FirstBad, first-stops, none-fails}
@@ -37,7 +37,7 @@ module _ {s : List ℕ} {at : Starts} {Y T m : List ℕ} (g : MarkedFile s at Y 
   abbrev CommandsFirst : ℕ → ℕ → Type 0
   CommandsFirst n c = FirstBad (λ c. commandKind (routine s at) m (routine s at .command c)) n c
 
-  pub type-breaks : {t p : ℕ} → TypesFirst (length m) t → t < length m → p ≡ at .types + 2 + 2 * t → refused 8 p ≡ breaking (routine s at) m at
+  pub type-breaks : {t p : ℕ} → TypesFirst (length m) t → t < length m → p ≡ typePlace at (t + 1) → refused 8 p ≡ breaking (routine s at) m at
   type-breaks {t} {p} f l q =
       let r : p ≡ routine s at .typePlace (suc t) = omega arith in
       ap (refused 8) r ∙ sym (first-stops 8 _ _ _ (rw (g .tables .size) at f) (omega (arith, g .tables .size)))
@@ -49,7 +49,7 @@ module _ {s : List ℕ} {at : Starts} {Y T m : List ℕ} (g : MarkedFile s at Y 
   types-pass f l = sym (none-fails 8 _ _ _ (rw (g .tables .size) at f) (omega (arith, g .tables .size)))
 
   module _ {t : ℕ} (f : TypesFirst (length m) t) (l : length m ≤ t) where
-    pub expr-breaks : {k i p : ℕ} → k ≡ half s (at .exprs) → ExprsFirst k i → i < k → p ≡ at .exprs + 2 + 5 * i
+    pub expr-breaks : {k i p : ℕ} → k ≡ half s (at .exprs) → ExprsFirst k i → i < k → p ≡ exprPlace at i
         → refused 8 p ≡ breaking (routine s at) m at
     expr-breaks {k} {i} {p} q h u r = ap (refused 8) r ∙ sym (first-stops 8 _ _ _ (rw q at h) (omega arith)) ∙ types-pass f l
 
@@ -58,7 +58,7 @@ module _ {s : List ℕ} {at : Starts} {Y T m : List ℕ} (g : MarkedFile s at Y 
           fine at) ≡ breaking (routine s at) m at
       exprs-pass = sym (none-fails 8 _ _ _ (rw q at h) (omega arith)) ∙ types-pass f l
 
-      pub command-breaks : {j c p : ℕ} → j ≡ half s (at .commands) → CommandsFirst j c → c < j → p ≡ at .commands + 2 + 7 * c
+      pub command-breaks : {j c p : ℕ} → j ≡ half s (at .commands) → CommandsFirst j c → c < j → p ≡ commandPlace at c
           → refused 8 p ≡ breaking (routine s at) m at
       command-breaks {j} {c} {p} v w x r = ap (refused 8) r ∙ sym (first-stops 8 _ _ _ (rw v at w) (omega arith)) ∙ exprs-pass
 

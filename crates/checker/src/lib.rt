@@ -11,13 +11,13 @@ use rules::Starts;
 use view::Counts;
 use view::row_counts;
 ghost use mathlib.Core.Path.{_≡_};
-ghost use Prim.Native.Nat.{ℕ, suc, _+_, _*_, _≤_};
+ghost use Prim.Native.Nat.{ℕ, suc, _+_, _≤_};
 ghost use lib.ListN.{length, getD};
 ghost use lib.Dec.{leb};
 ghost use Rattle.rules.specs.Kinds.{kinds, kindConverts, targetsMatter, deep, notSafe, needMet, typeKind, exprKind, commandKind};
 ghost use Rattle.rules.specs.Basic.{half, fine};
 ghost use Rattle.rules.specs.Calls.{readSays, checkSays, checking};
-ghost use Rattle.rules.specs.Table.{routine};
+ghost use Rattle.rules.specs.Table.{typePlace, exprPlace, commandPlace, routine};
 ghost use Rattle.view.specs.Rows.{countsOf};
 ghost use Rattle.needs.specs.Typed.{Typed};
 ghost use Rattle.checker.specs.Judge.{CheckedTyped, MarkedFile, breaking};
@@ -252,23 +252,23 @@ fn bad_command(
 // The places of a type row, by its index from 0, of an expression row and of a command row.
 fn type_place(at: Starts, i: usize) -> u32
     requires { ⌜ (at .types ≤ 30000) × (i ≤ 1024) ⌝ }
-    ensures { λ r. ⌜ r ≡ at .types + 2 + 2 * i ⌝ }
+    ensures { λ r. ⌜ r ≡ typePlace at (i + 1) ⌝ }
 {
-    at.types + 2 + 2 * (i as u32)
+    view::type_place(at, i + 1) as u32
 }
 
 fn expr_place(at: Starts, e: usize) -> u32
     requires { ⌜ (at .exprs ≤ 30000) × (e ≤ 1024) ⌝ }
-    ensures { λ r. ⌜ r ≡ at .exprs + 2 + 5 * e ⌝ }
+    ensures { λ r. ⌜ r ≡ exprPlace at e ⌝ }
 {
-    at.exprs + 2 + 5 * (e as u32)
+    view::expr_place(at, e) as u32
 }
 
 fn command_place(at: Starts, c: usize) -> u32
     requires { ⌜ (at .commands ≤ 30000) × (c ≤ 1024) ⌝ }
-    ensures { λ r. ⌜ r ≡ at .commands + 2 + 7 * c ⌝ }
+    ensures { λ r. ⌜ r ≡ commandPlace at c ⌝ }
 {
-    at.commands + 2 + 7 * (c as u32)
+    view::command_place(at, c) as u32
 }
 
 fn refuse(number: u32, place: u32) -> ReadAnswer

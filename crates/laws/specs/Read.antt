@@ -24,7 +24,7 @@ use Rattle.laws.specs.Formed.{Fits, CommandFits, ValueFits, Consecutive,
 
 -- ---- homes
 
-layout-at : (s : List ℕ) (q from n i : ℕ) → i < n
+pub layout-at : (s : List ℕ) (q from n i : ℕ) → i < n
     → (homeAt (layout s q from n) i .type ≡ half s (q + 4 * i)) × (homeAt (layout s q from n) i .size ≡ half s (q + 4 * i + 2))
 layout-at s q from zero i l = absurd (not-suc-le-zero l)
 layout-at s q from (suc n) zero l = let e : q + 4 * 0 ≡ q = omega arith in rw e (refl, refl)

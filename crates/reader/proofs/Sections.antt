@@ -23,10 +23,9 @@ use Rattle.rules.specs.Calls.{refusal, readSays}
 use Rattle.rules.specs.Tests.{in-range}
 use Rattle.reader.specs.declared.front.Step.{Step}
 use Rattle.reader.specs.declared.front.Step.the-variants.{Next, No}
-use Rattle.reader.proofs.front.Step as step
 use Rattle.laws.specs.WellRead.{Placed}
 use Rattle.laws.specs.Known.{sections-known, fifth-none}
-use Rattle.reader.specs.Steps.{Sighted, of-values, follow, RowsRead, SectionRead, FifthRead, CellsRead, fromEnd, fromValues, fromHomes}
+use Rattle.reader.specs.Steps.{Sighted, of-values, follow, RowsRead, SectionRead, fromCells, fromEnd, fromValues, fromHomes}
 
 abbrev pub no : ℕ → ℕ → Step
 no k p = No (record { number = k; place = p })
@@ -140,38 +139,40 @@ module _ (s : List ℕ) (c : Section) (q : ℕ) where
 
 -- ---- the cells
 
--- At home i of n, whose row is at place `at`, with the cells of those before.
-pub record CellsSoFar (s : List ℕ) (q n i at before : ℕ) : Type 0 where
-  pub rest : (go : Unit {0} → Verdict Starts) → cells s q 0 n go ≡ cells s at before (n - i) go
+-- At home i of n, whose row is at place q, with the cells of those before.
+pub record CellsSoFar (s : List ℕ) (at : Starts) (n i q before : ℕ) : Type 0 where
+  pub rest : fromCells s at ≡ cells s q before (n - i) (λ _. fine at)
+  pub count : n ≡ half s (at .homes)
   pub within : i ≤ n
-  pub place : at ≡ q + 4 * i
+  pub place : q ≡ at .homes + 2 + 4 * i
   pub few : before ≤ 4096
 
-pub cells-start : (s : List ℕ) (q n : ℕ) → CellsSoFar s q n 0 q 0
-cells-start s q n =
-    let e : n - 0 ≡ n = omega arith in
-    record { rest = λ go. rw e; within = omega arith; place = omega arith; few = omega arith }
+pub cells-start : (s : List ℕ) (at : Starts) (n : ℕ) → n ≡ half s (at .homes) → CellsSoFar s at n 0 (at .homes + 2) 0
+cells-start s at n count =
+    let e : n - 0 ≡ half s (at .homes) = omega arith in
+    record { rest = rw e; count = count; within = omega arith; place = omega arith; few = omega arith }
 
-module _ {s : List ℕ} {q n i at before : ℕ} (so-far : CellsSoFar s q n i at before) where
-  module _ (less : i < n) {size : ℕ} (read : size ≡ half s (at + 2)) where
-    one-home : (go : Unit {0} → Verdict Starts) → cells s at before (n - i) go ≡ guard 5 at (leb (before + size) 4096) λ _. cells s (at + 4) (before + size) (n - (i + 1)) go
+module _ {s : List ℕ} {at : Starts} {n i q before : ℕ} (so-far : CellsSoFar s at n i q before) where
+  module _ (less : i < n) {size : ℕ} (read : size ≡ half s (q + 2)) where
+    one-home : cells s q before (n - i) (λ _. fine at) ≡ guard 5 q (leb (before + size) 4096) λ _. cells s (q + 4) (before + size) (n - (i + 1)) λ _. fine at
     unfolding cells
-    one-home go = let e : n - i ≡ suc (n - (i + 1)) = omega arith in rw (e, read)
+    one-home = let e : n - i ≡ suc (n - (i + 1)) = omega arith in rw (e, read)
 
-    pub home-over : {r : Step} → r ≡ no 5 at → 4096 < before + size → CellsRead s q n r
-    home-over e h = record { means = λ go. so-far .rest go ∙ one-home go ∙ rw (lt-leb (before + size) 4096 h) (ap (λ x. follow x (λ _ _. go tt)) (sym e)) }
+    pub home-over : 4096 < before + size → refused 5 q ≡ fromCells s at
+    home-over h = sym (so-far .rest ∙ one-home ∙ rw (lt-leb (before + size) 4096 h))
 
-    pub home-fits : before + size ≤ 4096 → CellsSoFar s q n (i + 1) (at + 4) (before + size)
+    pub home-fits : before + size ≤ 4096 → CellsSoFar s at n (i + 1) (q + 4) (before + size)
     home-fits h = record {
-      rest = λ go. so-far .rest go ∙ one-home go ∙ rw (le-leb (before + size) 4096 h);
+      rest = so-far .rest ∙ one-home ∙ rw (le-leb (before + size) 4096 h);
+      count = so-far .count;
       within = omega arith;
       place = omega arith;
       few = h;
     }
 
-  pub no-homes : n ≤ i → CellsRead s q n (Next at n)
+  pub no-homes : n ≤ i → fine at ≡ fromCells s at
   unfolding cells
-  no-homes h = let e : n - i ≡ 0 = omega arith in record { means = λ go. so-far .rest go ∙ rw e }
+  no-homes h = let e : n - i ≡ 0 = omega arith in sym (so-far .rest ∙ rw e)
 
 -- ---- one step after the other
 
@@ -183,37 +184,21 @@ pub halts : (s : List ℕ) (c : Section) (q : ℕ) {r : Step} {m : Refusal} (go 
 halts s c q go read e = ap (λ x. follow x go) (sym e) ∙ sym (read .means go)
 
 module _ (s : List ℕ) (at : Starts) where
+  -- Bytes are left over, or the cells decide.
+  pub spare-bytes : (end : ℕ) → (end ≡ length s → ⊥) → refused 4 end ≡ fromEnd s at end
+  spare-bytes end z = sym (rw (ne-eqb end (length s) z))
+
+  pub cells-decide : (end : ℕ) {v : Verdict Starts} → end ≡ length s → v ≡ fromCells s at → v ≡ fromEnd s at end
+  cells-decide end z h = h ∙ sym (rw (eq-eqb end (length s) z))
+
   -- The start values are none, or a section.
-  pub none-there : at .values ≡ length s → at .values ≤ 30000 → FifthRead s at (Next (at .values) 0)
-  none-there z l = record { means = λ go. fifth-none s at z go; near = λ end n d. let x : at .values ≡ end = cc in omega arith }
+  pub none-there : {v : Verdict Starts} → at .values ≡ length s → v ≡ fromCells s at → v ≡ fromValues s at
+  none-there z h = cells-decide (at .values) z h ∙ sym (fifth-none s at z (λ end. fromEnd s at end))
 
-  pub values-there : {r : Step} → (at .values ≡ length s → ⊥) → at .values ≤ 20000 → SectionRead s (Values (at .homes)) (at .values) r → FifthRead s at r
+  pub values-there : {v : Verdict Starts} → (at .values ≡ length s → ⊥)
+      → v ≡ section s (Values (at .homes)) (at .values) (λ end n. fromEnd s at end) → v ≡ fromValues s at
   unfolding fifth
-  values-there z l read = record { means = λ go. rw (ne-eqb (at .values) (length s) z) (read .means (λ end n. go end)); near = λ end n d. omega (arith, read .passed end n d) }
-
-  pub fifth-goes : {r : Step} {end n : ℕ} {v : Verdict Starts} → FifthRead s at r → r ≡ Next end n → v ≡ fromEnd s at end → v ≡ fromValues s at
-  fifth-goes read e h = h ∙ ap (λ x. follow x (λ end _. fromEnd s at end)) (sym e) ∙ sym (read .means (λ end. fromEnd s at end))
-
-  pub fifth-halts : {r : Step} {m : Refusal} → FifthRead s at r → r ≡ No m → refusal m ≡ fromValues s at
-  fifth-halts read e = ap (λ x. follow x (λ end _. fromEnd s at end)) (sym e) ∙ sym (read .means (λ end. fromEnd s at end))
-
-  module _ (end : ℕ) where
-    pub spare-bytes : (end ≡ length s → ⊥) → refused 4 end ≡ fromEnd s at end
-    spare-bytes z = sym (rw (ne-eqb end (length s) z))
-
-    module _ (z : end ≡ length s) {n : ℕ} (count : n ≡ half s (at .homes)) {r : Step} (read : CellsRead s (at .homes + 2) n r) where
-      at-end : fromEnd s at end ≡ follow r (λ _ _. fine at)
-      at-end = rw (eq-eqb end (length s) z, ← count) (read .means _)
-
-      pub cells-halt : {m : Refusal} → r ≡ No m → refusal m ≡ fromEnd s at end
-      cells-halt k = sym (at-end ∙ ap (λ x. follow x (λ _ _. fine at)) k)
-
-      pub all-read : tagOf step.the-type r ≡ 0 → fine at ≡ fromEnd s at end
-      all-read k = sym (at-end ∙ passes r k)
-        where
-          passes : (r : Step) {v : Verdict Starts} → tagOf step.the-type r ≡ 0 → follow r (λ _ _. v) ≡ v
-          passes (Next at n) k = refl
-          passes (No m) k = absurd (omega arith)
+  values-there z h = h ∙ sym (rw (ne-eqb (at .values) (length s) z))
 
 pub sections-is : (s : List ℕ) → sections s ≡ section s Types 0 (λ h types. fromHomes s h types)
 unfolding sections

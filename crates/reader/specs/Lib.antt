@@ -1,5 +1,4 @@
--- What the steps of the reading mean, what the table of types holds, and what a caller learns.
+-- What the steps of the reading mean, what the table of types holds, and that the contracts leave no choice.
 pub mod Steps
 pub mod Tables
-pub mod Answers
 pub mod One

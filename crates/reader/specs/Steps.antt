@@ -48,14 +48,6 @@ pub record SectionRead (s : List ℕ) (c : Section) (q : ℕ) (r : Step) : Type 
   pub means : (go : ℕ → ℕ → Verdict Starts) → section s c q go ≡ follow r go
   pub passed : (at n : ℕ) → r ≡ Next at n → (at ≡ q + 2 + rowBytes c * n) × (at ≤ length s) × (at ≤ q + 7170) × (n ≤ 1024)
 
-pub record CellsRead (s : List ℕ) (q n : ℕ) (r : Step) : Type 0 where
-  pub means : (go : Unit {0} → Verdict Starts) → cells s q 0 n go ≡ follow r (λ _ _. go tt)
-
--- The start values, or none: `go` of the place behind them, or the refusal.
-pub record FifthRead (s : List ℕ) (at : Starts) (r : Step) : Type 0 where
-  pub means : (go : ℕ → Verdict Starts) → fifth s at go ≡ follow r (λ end _. go end)
-  pub near : (end n : ℕ) → r ≡ Next end n → end ≤ 30000
-
 -- ---- `reading`, from each section on
 
 abbrev pub fromCommands : List ℕ → ℕ → ℕ → ℕ → ℕ → Verdict Starts
@@ -67,11 +59,11 @@ fromExprs s h e types homes = section s (Exprs types homes) e λ c exprs. fromCo
 abbrev pub fromHomes : List ℕ → ℕ → ℕ → Verdict Starts
 fromHomes s h types = section s (Homes types) h λ e homes. fromExprs s h e types homes
 
+abbrev pub fromCells : List ℕ → Starts → Verdict Starts
+fromCells s at = cells s (at .homes + 2) 0 (half s (at .homes)) λ _. fine at
+
 abbrev pub fromEnd : List ℕ → Starts → ℕ → Verdict Starts
-fromEnd s at end =
-    guard 4 end (eqb end (length s)) λ _.
-    cells s (at .homes + 2) 0 (half s (at .homes)) λ _.
-    fine at
+fromEnd s at end = guard 4 end (eqb end (length s)) λ _. fromCells s at
 
 abbrev pub fromValues : List ℕ → Starts → Verdict Starts
 fromValues s at = fifth s at λ end. fromEnd s at end

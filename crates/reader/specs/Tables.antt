@@ -1,13 +1,13 @@
 -- What the table of types holds, and refusals 10 and 6.
 use mathlib.Core.Path.{_≡_}
 use mathlib.Core.Bool.{Bool}
-use Prim.Native.Nat.{ℕ, _+_, _*_, _≤_, _<_}
+use Prim.Native.Nat.{ℕ, _≤_, _<_}
 use mathlib.Core.List.{List}
 use lib.ListN.{length, getD}
 use Rattle.rules.specs.declared.Starts.{Starts}
 use Rattle.rules.specs.declared.ReadAnswer.{ReadAnswer}
 use Rattle.rules.specs.Basic.{Verdict, fine, refused, firstBad}
-use Rattle.rules.specs.Table.{Routine, routine}
+use Rattle.rules.specs.Table.{Routine, routine, exprPlace, commandPlace, valuePlace}
 use Rattle.rules.specs.Reading.{reading, rises, rising}
 use Rattle.rules.specs.Shape.{typeOf, exprShaped, commandShaped, valueShaped, shape}
 use Rattle.rules.specs.Calls.{readSays, formed}
@@ -30,10 +30,10 @@ passesAt r Commands c = commandShaped r (r .command c)
 passesAt r Values i = valueShaped r (r .value i)
 
 abbrev pub placeOf : Starts → Test → ℕ → ℕ
-placeOf at Rising i = at .values + 2 + 8 * i
-placeOf at Exprs e = at .exprs + 2 + 5 * e
-placeOf at Commands c = at .commands + 2 + 7 * c
-placeOf at Values i = at .values + 2 + 8 * i
+placeOf at Rising i = valuePlace at i
+placeOf at Exprs e = exprPlace at e
+placeOf at Commands c = commandPlace at c
+placeOf at Values i = valuePlace at i
 
 abbrev pub numberOf : Test → ℕ
 numberOf Rising = 10

@@ -13,7 +13,7 @@ ghost use lib.ListN.{length};
 ghost use Rattle.rules.specs.Calls.{readSays};
 ghost use Rattle.rules.specs.Reading.{rowBytes, fewest, most, sections, reading};
 ghost use Rattle.laws.specs.WellRead.{Placed};
-ghost use Rattle.reader.specs.Steps.{Sighted, RowsRead, SectionRead, FifthRead, CellsRead, fromHomes, fromExprs, fromCommands, fromEnd, fromValues};
+ghost use Rattle.reader.specs.Steps.{Sighted, RowsRead, SectionRead, fromHomes, fromExprs, fromCommands, fromCells, fromEnd, fromValues};
 
 // How a part of the reading ends: at the place behind it, with a count of rows; or in a refusal.
 pub enum Step {
@@ -107,26 +107,6 @@ fn section(s: &[u8], part: Section, q: usize) -> Step
     rows(s, part, q + 2, n)
 }
 
-// The cells of the `n` homes whose rows begin at place `q`.
-fn cells(s: &[u8], q: usize, n: usize) -> Step
-    requires { ⌜ (q + 4 * n ≤ length (now s)) × (q ≤ 22000) × (n ≤ 1024) ⌝ }
-    ensures { λ r. ⌜ CellsRead (now (s .entry)) q n r ⌝ }
-{
-    let mut i = 0;
-    let mut at = q;
-    let mut total = 0;
-    while i < n {
-        let size = half_at(s, at + 2);
-        if 4096 < total + size {
-            return no(5, at);
-        }
-        total += size;
-        i += 1;
-        at += 4;
-    }
-    Step::Next(at, n)
-}
-
 // From the commands' count on, at `c`.
 fn from_commands(s: &[u8], h: usize, e: usize, c: usize, exprs: usize) -> ReadAnswer
     requires { ⌜ (h ≤ 7170) × (e ≤ 14340) × (c ≤ 21510) ⌝ }
@@ -176,16 +156,29 @@ fn four(s: &[u8]) -> ReadAnswer
     }
 }
 
-// The start values, if a byte follows the commands.
-fn fifth(s: &[u8], at: Starts) -> Step
+// The cells of the homes: the answer for a file whose five sections are read.
+fn cells(s: &[u8], at: Starts) -> ReadAnswer
     requires { ⌜ Placed (now s) at ⌝ }
-    ensures { λ r. ⌜ FifthRead (now (s .entry)) at r ⌝ }
+    ensures { λ r. ⌜ readSays r ≡ fromCells (now (s .entry)) at ⌝ }
 {
-    let v = at.values as usize;
-    if v == s.len() {
-        return Step::Next(v, 0);
+    let h = at.homes as usize;
+    let n = half_at(s, h);
+    let mut i = 0;
+    let mut q = h + 2;
+    let mut total = 0;
+    while i < n {
+        let size = half_at(s, q + 2);
+        if 4096 < total + size {
+            return ReadAnswer::Refused(Refusal {
+                number: 5,
+                place: q as u32,
+            });
+        }
+        total += size;
+        i += 1;
+        q += 4;
     }
-    section(s, Section::Values(at.homes as usize), v)
+    ReadAnswer::WellFormed(at)
 }
 
 // Behind the start values, at `end`: no spare byte, then the cells.
@@ -199,19 +192,19 @@ fn from_end(s: &[u8], at: Starts, end: usize) -> ReadAnswer
             place: end as u32,
         });
     }
-    let h = at.homes as usize;
-    match cells(s, h + 2, half_at(s, h)) {
-        Step::Next(_, _) => ReadAnswer::WellFormed(at),
-        Step::No(n) => ReadAnswer::Refused(n),
-    }
+    cells(s, at)
 }
 
-// Behind the commands.
+// Behind the commands: the start values, if a byte follows.
 fn from_values(s: &[u8], at: Starts) -> ReadAnswer
     requires { ⌜ Placed (now s) at ⌝ }
     ensures { λ r. ⌜ readSays r ≡ fromValues (now (s .entry)) at ⌝ }
 {
-    match fifth(s, at) {
+    let v = at.values as usize;
+    if v == s.len() {
+        return cells(s, at);
+    }
+    match section(s, Section::Values(at.homes as usize), v) {
         Step::Next(end, _) => from_end(s, at, end),
         Step::No(n) => ReadAnswer::Refused(n),
     }

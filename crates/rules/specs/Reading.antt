@@ -7,7 +7,7 @@ use lib.Dec.{ltb, leb, eqb}
 use Rattle.rules.specs.declared.Starts.{Starts}
 use Rattle.rules.specs.declared.Section.{Section}
 use Rattle.rules.specs.declared.Section.the-variants.{Types, Homes, Exprs, Commands, Values}
-use Rattle.rules.specs.Table.{Expr, Command, StartRow, Routine, exprAt, commandAt, startRowAt, literal, home, cast, null, sum, read, op, skip, then, store, ifElse, while}
+use Rattle.rules.specs.Table.{Expr, Command, StartRow, Routine, rowPlace, exprAt, commandAt, startRowAt, literal, home, cast, null, sum, read, op, skip, then, store, ifElse, while}
 use Rattle.rules.specs.Basic.{byte, half, choose, inRange, Verdict, fine, unlessRefused, guard, scan, firstBad}
 
 -- ---- the sections (RULES 1.2)
@@ -80,8 +80,8 @@ rowGood s (Values h) i q = valueGood (half s h) (λ g. half s (h + 4 * g)) (star
 -- Row i of a section whose rows begin at q: whole (else 1), and in range (else 3).
 abbrev pub rowRead : {X : Type 0} → List ℕ → Section → ℕ → ℕ → (Unit {0} → Verdict X) → Verdict X
 rowRead s c q i go =
-    guard 1 (q + rowBytes c * i) (leb (q + rowBytes c * i + rowBytes c) (length s)) λ _.
-    guard 3 (q + rowBytes c * i) (rowGood s c i (q + rowBytes c * i)) go
+    guard 1 (rowPlace q (rowBytes c) i) (leb (rowPlace q (rowBytes c) i + rowBytes c) (length s)) λ _.
+    guard 3 (rowPlace q (rowBytes c) i) (rowGood s c i (rowPlace q (rowBytes c) i)) go
 
 -- n rows, from number i on, of a section whose rows begin at q.
 unfoldable pub rows : {X : Type 0} → List ℕ → Section → ℕ → ℕ → ℕ → (Unit {0} → Verdict X) → Verdict X
@@ -93,7 +93,7 @@ section s c q go =
     guard 1 q (leb (q + 2) (length s)) λ _.
     guard 2 q (inRange (fewest c) (half s q) (most c)) λ _.
     rows s c (q + 2) 0 (half s q) λ _.
-    go (q + 2 + rowBytes c * half s q) (half s q)
+    go (rowPlace (q + 2) (rowBytes c) (half s q)) (half s q)
 
 -- Refusal 5: the first home row with which the cells pass 4,096 (RULES 1.9).
 unfoldable pub cells : {X : Type 0} → List ℕ → ℕ → ℕ → ℕ → (Unit {0} → Verdict X) → Verdict X

@@ -98,22 +98,43 @@ total (h ∷ hs) = h .size + total hs
 abbrev pub nullHome : Home
 nullHome = record { type = 0; start = 0; size = 1 }
 
--- The routine of a file's bytes whose sections start at `at`. Types are numbered from 1. Past its end a file has bytes 0, so one that stops after
--- the commands has no start rows.
+-- Where row i stands among rows of n bytes that begin at q.
+abbrev pub rowPlace : ℕ → ℕ → ℕ → ℕ
+rowPlace q n i = q + n * i
+
+-- The places of a file's rows by number (RULES 1.2). Types and homes are numbered from 1; as a type row has the bytes of a count, type 0 has the
+-- count's place.
+abbrev pub typePlace : Starts → ℕ → ℕ
+typePlace at t = rowPlace (at .types) 2 t
+
+abbrev pub homePlace : Starts → ℕ → ℕ
+homePlace at g = rowPlace (at .homes + 2) 4 (g - 1)
+
+abbrev pub exprPlace : Starts → ℕ → ℕ
+exprPlace at e = rowPlace (at .exprs + 2) 5 e
+
+abbrev pub commandPlace : Starts → ℕ → ℕ
+commandPlace at c = rowPlace (at .commands + 2) 7 c
+
+abbrev pub valuePlace : Starts → ℕ → ℕ
+valuePlace at i = rowPlace (at .values + 2) 8 i
+
+-- The routine of a file's bytes whose sections start at `at`. Past its end a file has bytes 0, so one that stops after the commands has no start
+-- rows.
 abbrev pub routine : List ℕ → Starts → Routine
 routine s at =
     record {
       types = half s (at .types);
-      target = λ t. half s (at .types + 2 * t);
-      typePlace = λ t. at .types + 2 * t;
+      target = λ t. half s (typePlace at t);
+      typePlace = λ t. typePlace at t;
       homes = nullHome ∷ layout s (at .homes + 2) 1 (half s (at .homes));
       exprs = half s (at .exprs);
-      expr = λ e. exprAt s (at .exprs + 2 + 5 * e);
-      exprPlace = λ e. at .exprs + 2 + 5 * e;
+      expr = λ e. exprAt s (exprPlace at e);
+      exprPlace = λ e. exprPlace at e;
       commands = half s (at .commands);
-      command = λ c. commandAt s (at .commands + 2 + 7 * c);
-      commandPlace = λ c. at .commands + 2 + 7 * c;
+      command = λ c. commandAt s (commandPlace at c);
+      commandPlace = λ c. commandPlace at c;
       values = half s (at .values);
-      value = λ i. startRowAt s (at .values + 2 + 8 * i);
-      valuePlace = λ i. at .values + 2 + 8 * i;
+      value = λ i. startRowAt s (valuePlace at i);
+      valuePlace = λ i. valuePlace at i;
     }

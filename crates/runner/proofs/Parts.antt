@@ -1,6 +1,6 @@
 -- What the small functions return.
 use mathlib.Core.Path.{_≡_, refl, sym, ap, _∙_}
-use Prim.Native.Nat.{ℕ, zero, suc, _+_, _*_, _-_, _<_, _≤_}
+use Prim.Native.Nat.{ℕ, zero, suc, _+_, _-_, _<_, _≤_}
 use native.Mathlib.Omega.{arith}
 use mathlib.Core.List.{List, [], _∷_, _++_, append-assoc, append-nil}
 use lib.ListN.{getD, length, take, drop, set, replicate, length-append, length-replicate, length-drop, take-append-drop}
@@ -8,6 +8,7 @@ use lib.Seq.{length-take-le, drop-cons, set-at, append-snoc}
 use borrow.Author.Tests.{lt-ltb, le-ltb}
 use Rattle.rules.specs.declared.Starts.{Starts}
 use Rattle.rules.specs.declared.Outcome.the-variants as outcome
+use Rattle.rules.specs.Table.{exprPlace, commandPlace}
 use Rattle.rules.specs.Kinds.{kind}
 use Rattle.rules.specs.Memory.{encode}
 use Rattle.rules.specs.Run.{freshValue}
@@ -89,10 +90,10 @@ entry-kinds r k u t v m e p q = e ∙ ap (λ s. encode (freshValue s (kindAt u))
 -- ---- a row's place
 
 module _ (at : Starts) (i : ℕ) where
-  pub low-place : i < 1024 → placeAt at i ≡ at .exprs + 2 + 5 * i
+  pub low-place : i < 1024 → placeAt at i ≡ exprPlace at i
   low-place l = rw (lt-ltb i 1024 l)
 
-  pub high-place : 1024 ≤ i → placeAt at i ≡ at .commands + 2 + 7 * (i - 1024)
+  pub high-place : 1024 ≤ i → placeAt at i ≡ commandPlace at (i - 1024)
   high-place l = rw (le-ltb i 1024 l)
 
 -- ---- the report

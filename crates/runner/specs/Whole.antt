@@ -1,5 +1,5 @@
 -- What the parts of a whole run are held to.
-use Prim.Native.Nat.{ℕ, _+_, _*_, _-_, _≤_, _<_}
+use Prim.Native.Nat.{ℕ, _+_, _-_, _≤_, _<_}
 use mathlib.Core.List.{List, _++_}
 use lib.ListN.{take, drop, replicate}
 use lib.Dec.{ltb}
@@ -7,6 +7,7 @@ use Rattle.rules.specs.declared.Starts.{Starts}
 use Rattle.rules.specs.declared.Outcome.the-variants as outcome
 use Rattle.rules.specs.declared.Report.{Report}
 use Rattle.rules.specs.Basic.{choose}
+use Rattle.rules.specs.Table.{exprPlace, commandPlace}
 use Rattle.rules.specs.Kinds.{kind}
 use Rattle.rules.specs.Memory.{encode}
 use Rattle.rules.specs.Run.{freshValue}
@@ -24,7 +25,7 @@ entryIn s at m p = encode (freshValue (kind m p) (kind m (typeRow s at p .target
 
 -- The place of a row by its number in the table.
 abbrev pub placeAt : Starts → ℕ → ℕ
-placeAt at i = choose (ltb i 1024) (λ _. at .exprs + 2 + 5 * i) (λ _. at .commands + 2 + 7 * (i - 1024))
+placeAt at i = choose (ltb i 1024) (λ _. exprPlace at i) (λ _. commandPlace at (i - 1024))
 
 abbrev pub reportOf : Starts → Ran → ℕ → Report
 reportOf at (Done left) fuel = record { outcome = outcome.Done; units = fuel - left }

@@ -151,9 +151,9 @@ fn place(at: Starts, row: u32) -> u32
     ensures { λ r. ⌜ r ≡ placeAt at row ⌝ }
 {
     if row < 1024 {
-        return at.exprs + 2 + 5 * row;
+        return view::expr_place(at, row as usize) as u32;
     }
-    at.commands + 2 + 7 * (row - 1024)
+    view::command_place(at, row as usize - 1024) as u32
 }
 
 fn report(at: Starts, x: Ran, fuel: u32) -> Report

@@ -2,5 +2,4 @@
 pub mod Rows
 pub mod Tags
 pub mod Means
-pub mod Named
 pub mod Typed

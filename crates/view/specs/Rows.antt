@@ -1,9 +1,10 @@
 -- The rows of a file's sections as the view answers them, and when they may be asked.
-use Prim.Native.Nat.{ℕ, _+_, _*_, _-_, _≤_, _<_}
+use Prim.Native.Nat.{ℕ, _+_, _≤_, _<_}
 use mathlib.Core.List.{List}
 use lib.ListN.{length}
 use Rattle.rules.specs.declared.Starts.{Starts}
 use Rattle.rules.specs.Basic.{byte, half, word}
+use Rattle.rules.specs.Table.{typePlace, homePlace, exprPlace, commandPlace, valuePlace}
 use Rattle.laws.specs.WellRead.{WellRead}
 use Rattle.laws.specs.Known.{values-fit}
 use Rattle.view.specs.declared.TypeRow.{TypeRow}
@@ -12,10 +13,6 @@ use Rattle.view.specs.declared.ExprRow.{ExprRow}
 use Rattle.view.specs.declared.CommandRow.{CommandRow}
 use Rattle.view.specs.declared.StartRow.{StartRow}
 use Rattle.view.specs.declared.Counts.{Counts}
-
--- The place of a row. Types and homes are numbered from 1.
-abbrev pub homePlace : Starts → ℕ → ℕ
-homePlace at g = at .homes + 2 + 4 * (g - 1)
 
 -- A row's fields at its place.
 abbrev pub typeRowAt : List ℕ → ℕ → TypeRow
@@ -35,23 +32,29 @@ startRowAt s q = record { home = half s q; cell = half s (q + 2); value = word s
 
 -- A row by its number.
 abbrev pub typeRow : List ℕ → Starts → ℕ → TypeRow
-typeRow s at t = typeRowAt s (at .types + 2 * t)
+typeRow s at t = typeRowAt s (typePlace at t)
 
 abbrev pub homeRow : List ℕ → Starts → ℕ → HomeRow
 homeRow s at g = homeRowAt s (homePlace at g)
 
 abbrev pub exprRow : List ℕ → Starts → ℕ → ExprRow
-exprRow s at e = exprRowAt s (at .exprs + 2 + 5 * e)
+exprRow s at e = exprRowAt s (exprPlace at e)
 
 abbrev pub commandRow : List ℕ → Starts → ℕ → CommandRow
-commandRow s at c = commandRowAt s (at .commands + 2 + 7 * c)
+commandRow s at c = commandRowAt s (commandPlace at c)
 
 abbrev pub startRow : List ℕ → Starts → ℕ → StartRow
-startRow s at i = startRowAt s (at .values + 2 + 8 * i)
+startRow s at i = startRowAt s (valuePlace at i)
 
 abbrev pub countsOf : List ℕ → Starts → Counts
 countsOf s at =
-    record { types = half s (at .types); homes = half s (at .homes); exprs = half s (at .exprs); commands = half s (at .commands) }
+    record {
+      types = half s (at .types);
+      homes = half s (at .homes);
+      exprs = half s (at .exprs);
+      commands = half s (at .commands);
+      values = half s (at .values);
+    }
 
 -- A row of a file that was read, by a number that it has.
 pub record TypeAsked (s : List ℕ) (at : Starts) (t : ℕ) : Type 0 where
@@ -75,7 +78,7 @@ pub record StartAsked (s : List ℕ) (at : Starts) (i : ℕ) : Type 0 where
   pub file : WellRead s at
   pub row : i < half s (at .values)
   -- It is whole, though a file need not have start values (`Fifth`).
-  pub whole : at .values + 2 + 8 * i + 8 ≤ length s
+  pub whole : valuePlace at i + 8 ≤ length s
 
 pub value-asked : {s : List ℕ} {at : Starts} → WellRead s at → (i : ℕ) → i < half s (at .values) → StartAsked s at i
 value-asked file i l = record { file = file; row = l; whole = values-fit (file .values) i l }

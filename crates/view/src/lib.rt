@@ -1,4 +1,4 @@
-// The view of a file that was read: its bytes and its five section starts, with one question for the rows of each section.
+// The view of a file that was read: its bytes and its five section starts, with one question for the counts and one for the rows of each section.
 // Above each question stands a function with plain parameters that makes the view and asks it; the work is done by functions on the slice.
 use rules::Starts;
 ghost use mathlib.Core.Path.{_≡_};
@@ -6,6 +6,7 @@ ghost use Prim.Native.Nat.{_+_, _≤_, _<_};
 ghost use lib.ListN.{length};
 ghost use Rattle.rules.specs.Basic.{half, word};
 ghost use Rattle.laws.specs.WellRead.{WellRead};
+ghost use Rattle.rules.specs.Table.{typePlace, homePlace, exprPlace, commandPlace, valuePlace};
 ghost use Rattle.view.specs.Rows.{typeRow, homeRow, exprRow, commandRow, startRow, countsOf, TypeAsked, HomeAsked, ExprAsked, CommandAsked, StartAsked};
 
 // A type row: the type that a reference of this type points to.
@@ -41,18 +42,61 @@ pub struct StartRow {
     pub value: u32,
 }
 
-// How many rows each section has, but for the start values (`start_count`).
+// How many rows each section has.
 pub struct Counts {
     pub types: u16,
     pub homes: u16,
     pub exprs: u16,
     pub commands: u16,
+    pub values: u16,
 }
 
 // The file's bytes and its five section starts.
 pub struct View<'a> {
     pub bytes: &'a [u8],
     pub at: Starts,
+}
+
+// ---- the places of rows
+
+// Of type row `t`, from 1; for 0, that of the count.
+pub fn type_place(at: Starts, t: usize) -> usize
+    requires { ⌜ t < 4294967296 ⌝ }
+    ensures { λ r. ⌜ r ≡ typePlace at t ⌝ }
+{
+    at.types as usize + 2 * t
+}
+
+// Of home row `g`, from 1.
+pub fn home_place(at: Starts, g: usize) -> usize
+    requires { ⌜ (1 ≤ g) × (g < 4294967296) ⌝ }
+    ensures { λ r. ⌜ r ≡ homePlace at g ⌝ }
+{
+    at.homes as usize + 2 + 4 * (g - 1)
+}
+
+// Of expression row `e`.
+pub fn expr_place(at: Starts, e: usize) -> usize
+    requires { ⌜ e < 4294967296 ⌝ }
+    ensures { λ r. ⌜ r ≡ exprPlace at e ⌝ }
+{
+    at.exprs as usize + 2 + 5 * e
+}
+
+// Of command row `c`.
+pub fn command_place(at: Starts, c: usize) -> usize
+    requires { ⌜ c < 4294967296 ⌝ }
+    ensures { λ r. ⌜ r ≡ commandPlace at c ⌝ }
+{
+    at.commands as usize + 2 + 7 * c
+}
+
+// Of start row `i`.
+pub fn start_place(at: Starts, i: usize) -> usize
+    requires { ⌜ i < 4294967296 ⌝ }
+    ensures { λ r. ⌜ r ≡ valuePlace at i ⌝ }
+{
+    at.values as usize + 2 + 8 * i
 }
 
 // ---- the work, on the slice
@@ -85,7 +129,7 @@ fn type_at(s: &[u8], at: Starts, t: usize) -> TypeRow
     requires { ⌜ TypeAsked (now s) at t ⌝ }
     ensures { λ r. ⌜ r ≡ typeRow (now (s .entry)) at t ⌝ }
 {
-    let q = at.types as usize + 2 * t;
+    let q = type_place(at, t);
     TypeRow {
         target: half_at(s, q),
     }
@@ -96,7 +140,7 @@ fn home_at(s: &[u8], at: Starts, g: usize) -> HomeRow
     requires { ⌜ HomeAsked (now s) at g ⌝ }
     ensures { λ r. ⌜ r ≡ homeRow (now (s .entry)) at g ⌝ }
 {
-    let q = at.homes as usize + 2 + 4 * (g - 1);
+    let q = home_place(at, g);
     HomeRow {
         ty: half_at(s, q),
         size: half_at(s, q + 2),
@@ -108,7 +152,7 @@ fn expr_at(s: &[u8], at: Starts, e: usize) -> ExprRow
     requires { ⌜ ExprAsked (now s) at e ⌝ }
     ensures { λ r. ⌜ r ≡ exprRow (now (s .entry)) at e ⌝ }
 {
-    let q = at.exprs as usize + 2 + 5 * e;
+    let q = expr_place(at, e);
     ExprRow {
         tag: s[q],
         a: half_at(s, q + 1),
@@ -121,7 +165,7 @@ fn command_at(s: &[u8], at: Starts, c: usize) -> CommandRow
     requires { ⌜ CommandAsked (now s) at c ⌝ }
     ensures { λ r. ⌜ r ≡ commandRow (now (s .entry)) at c ⌝ }
 {
-    let q = at.commands as usize + 2 + 7 * c;
+    let q = command_place(at, c);
     CommandRow {
         tag: s[q],
         a: half_at(s, q + 1),
@@ -135,7 +179,7 @@ fn start_at(s: &[u8], at: Starts, i: usize) -> StartRow
     requires { ⌜ StartAsked (now s) at i ⌝ }
     ensures { λ r. ⌜ r ≡ startRow (now (s .entry)) at i ⌝ }
 {
-    let q = at.values as usize + 2 + 8 * i;
+    let q = start_place(at, i);
     StartRow {
         home: half_at(s, q),
         cell: half_at(s, q + 2),
@@ -143,33 +187,34 @@ fn start_at(s: &[u8], at: Starts, i: usize) -> StartRow
     }
 }
 
-// How many rows the four sections have that every file has.
-pub fn row_counts(file: &[u8], at: Starts) -> Counts
-    requires { ⌜ WellRead (now file) at ⌝ }
-    ensures { λ r. ⌜ r ≡ countsOf (now (file .entry)) at ⌝ }
+// How many start rows there are: none where the file stops after the commands.
+fn start_count_at(s: &[u8], at: Starts) -> u16
+    requires { ⌜ WellRead (now s) at ⌝ }
+    ensures { λ r. ⌜ r ≡ half (now (s .entry)) (at .values) ⌝ }
+{
+    let q = at.values as usize;
+    if q == s.len() {
+        return 0;
+    }
+    half_at(s, q)
+}
+
+// How many rows each section has.
+fn counts_at(s: &[u8], at: Starts) -> Counts
+    requires { ⌜ WellRead (now s) at ⌝ }
+    ensures { λ r. ⌜ r ≡ countsOf (now (s .entry)) at ⌝ }
 {
     let types = at.types as usize;
     let homes = at.homes as usize;
     let exprs = at.exprs as usize;
     let commands = at.commands as usize;
     Counts {
-        types: half_at(file, types),
-        homes: half_at(file, homes),
-        exprs: half_at(file, exprs),
-        commands: half_at(file, commands),
+        types: half_at(s, types),
+        homes: half_at(s, homes),
+        exprs: half_at(s, exprs),
+        commands: half_at(s, commands),
+        values: start_count_at(s, at),
     }
-}
-
-// How many start rows there are: none where the file stops after the commands.
-pub fn start_count(file: &[u8], at: Starts) -> u16
-    requires { ⌜ WellRead (now file) at ⌝ }
-    ensures { λ r. ⌜ r ≡ half (now (file .entry)) (at .values) ⌝ }
-{
-    let q = at.values as usize;
-    if q == file.len() {
-        return 0;
-    }
-    half_at(file, q)
 }
 
 // ---- the view
@@ -179,6 +224,14 @@ pub fn view_of<'a>(bytes: &'a [u8], at: Starts) -> View<'a>
     ensures { λ r. ⌜ (r .bytes ≡ bytes .entry) × (r .at ≡ at) ⌝ }
 {
     View { bytes, at }
+}
+
+// How many rows each section of the view's file has.
+pub fn ask_counts<'a>(v: View<'a>) -> Counts
+    requires { ⌜ WellRead (now (v .bytes)) (v .at) ⌝ }
+    ensures { λ r. ⌜ r ≡ countsOf (now (v .entry .bytes)) (v .entry .at) ⌝ }
+{
+    counts_at(v.bytes, v.at)
 }
 
 // Type row `t` of the view's file.
@@ -222,6 +275,22 @@ pub fn ask_start<'a>(v: View<'a>, i: usize) -> StartRow
 }
 
 // ---- the same questions with plain parameters
+
+// How many rows each section of a file that was read has.
+pub fn row_counts(file: &[u8], at: Starts) -> Counts
+    requires { ⌜ WellRead (now file) at ⌝ }
+    ensures { λ r. ⌜ r ≡ countsOf (now (file .entry)) at ⌝ }
+{
+    ask_counts(view_of(file, at))
+}
+
+// Of these, the start values.
+pub fn start_count(file: &[u8], at: Starts) -> u16
+    requires { ⌜ WellRead (now file) at ⌝ }
+    ensures { λ r. ⌜ r ≡ half (now (file .entry)) (at .values) ⌝ }
+{
+    row_counts(file, at).values
+}
 
 // Type row `t` of a file that was read.
 pub fn type_row(file: &[u8], at: Starts, t: usize) -> TypeRow

@@ -1,4 +1,4 @@
--- `read_typed` meets its contract: a refusal from 1 to 5 comes first and leaves the table, or the table is filled and the shape decides. Assumes nothing.
+-- `read_typed` meets its contract: a refusal from 1 to 5 comes first and leaves the table, or the table is filled, and 10 and 6 decide. Assumes nothing.
 use Rattle.reader.proofs.Shapes.{not-read, now-known, read-typed}
 use mathlib.Core.Path.{_∙_}
 use borrow.Author.Needs.{needs}
@@ -20,11 +20,11 @@ returns c = not-read (c .before .before .before .before .args .file .now) (c .be
 type-table-requires : tie.Need-type-table-requires
 type-table-requires c κs = (now-known (c .before .before .before .before .before .before .args .file .now) (c .before .before .before .before .whole .result) (c .before .before .before .before .whole .ensures) (c .before .before .found .given .1), c .before .before .before .before .before .before .pre)
 
-shaped-requires : tie.Need-shaped-requires
-shaped-requires c κs = record { file = now-known (c .before .before .before .before .before .before .before .before .args .file .now) (c .before .before .before .before .before .before .whole .result) (c .before .before .before .before .before .before .whole .ensures) (c .before .before .before .before .found .given .1); long = c .before .type-table .ensures .long ∙ c .before .before .before .before .before .before .before .before .pre; types = c .before .type-table .ensures .types }
+tests-pass-requires : tie.Need-tests-pass-requires
+tests-pass-requires c κs = record { file = now-known (c .before .before .before .before .before .before .before .before .args .file .now) (c .before .before .before .before .before .before .whole .result) (c .before .before .before .before .before .before .whole .ensures) (c .before .before .before .before .found .given .1); long = c .before .type-table .ensures .long ∙ c .before .before .before .before .before .before .before .before .pre; types = c .before .type-table .ensures .types }
 
 returns-2 : tie.Need-returns-2
-returns-2 c = read-typed (c .before .before .before .before .before .before .before .before .before .args .file .now) (c .before .before .before .before .before .before .before .whole .result) (c .before .before .before .before .before .before .before .whole .ensures) (c .before .before .before .before .before .found .given .1) (c .before .before .type-table .ensures) (c .shaped .ensures)
+returns-2 c = read-typed (c .before .before .before .before .before .before .before .before .before .args .file .now) (c .before .before .before .before .before .before .before .whole .result) (c .before .before .before .before .before .before .before .whole .ensures) (c .before .before .before .before .before .found .given .1) (c .before .before .type-table .ensures) (c .tests-pass .ensures)
 
 pub read-typed-spec : {M : Type 1} → statement M
 read-typed-spec =
@@ -35,5 +35,5 @@ read-typed-spec =
     enum-told
     returns
     type-table-requires
-    shaped-requires
+    tests-pass-requires
     returns-2)

@@ -1,44 +1,40 @@
--- Either section's closed form.
-use mathlib.Core.Path.{sym}
+-- Either section's place.
+use mathlib.Core.Path.{sym, _∙_}
 use native.Mathlib.Omega.{arith}
 use Rattle.runner.proofs.Parts.{low-place, high-place}
 use borrow.Author.Needs.{needs}
 use Rattle.runner.proofs.place.Statement.{statement}
 use Rattle.runner.proofs.place.Tie as tie
 
-add-result : tie.Need-add-result
-add-result c = omega (arith, c .before .before .pre, low-place (c .before .before .args .at) (c .before .before .args .row) (c .before .if1 .taken))
+expr-place-requires : tie.Need-expr-place-requires
+expr-place-requires c κs = search needs
 
-mul-result : tie.Need-mul-result
-mul-result c = search needs
-
-add-result-2 : tie.Need-add-result-2
-add-result-2 c = omega (arith, c .before .before .pre, low-place (c .before .before .args .at) (c .before .before .args .row) (c .before .if1 .taken))
+cast-result : tie.Need-cast-result
+cast-result c = omega (arith, c .before .before .pre, c .expr-place .ensures, low-place (c .before .before .args .at) (c .before .before .args .row) (c .before .if1 .taken))
 
 returns : tie.Need-returns
-returns c = sym (low-place (c .before .before .args .at) (c .before .before .args .row) (c .before .if1 .taken))
+returns c = c .expr-place .ensures ∙ sym (low-place (c .before .before .args .at) (c .before .before .args .row) (c .before .if1 .taken))
 
-add-result-3 : tie.Need-add-result-3
-add-result-3 c = omega (arith, c .before .before .pre, high-place (c .before .before .args .at) (c .before .before .args .row) (c .before .if1 .left))
+sub-command-place : tie.Need-sub-command-place
+sub-command-place c = search needs
 
-mul-result-2 : tie.Need-mul-result-2
-mul-result-2 c = omega (arith, c .before .before .pre, high-place (c .before .before .args .at) (c .before .before .args .row) (c .before .if1 .left))
+command-place-requires : tie.Need-command-place-requires
+command-place-requires c κs = search needs
 
-add-result-4 : tie.Need-add-result-4
-add-result-4 c = omega (arith, c .before .before .pre, high-place (c .before .before .args .at) (c .before .before .args .row) (c .before .if1 .left))
+cast-result-2 : tie.Need-cast-result-2
+cast-result-2 c = omega (arith, c .before .before .pre, c .command-place .ensures, high-place (c .before .before .args .at) (c .before .before .args .row) (c .before .if1 .left))
 
 returns-2 : tie.Need-returns-2
-returns-2 c = sym (high-place (c .before .before .args .at) (c .before .before .args .row) (c .before .if1 .left))
+returns-2 c = c .command-place .ensures ∙ sym (high-place (c .before .before .args .at) (c .before .before .args .row) (c .before .if1 .left))
 
 pub place-spec : {M : Type 1} → statement M
 place-spec =
     tie.close
     (tie.spec
-    add-result
-    mul-result
-    add-result-2
+    expr-place-requires
+    cast-result
     returns
-    add-result-3
-    mul-result-2
-    add-result-4
+    sub-command-place
+    command-place-requires
+    cast-result-2
     returns-2)

@@ -3,20 +3,11 @@ use borrow.Author.Needs.{needs}
 use Rattle.view.proofs.command_at.Statement.{statement}
 use Rattle.view.proofs.command_at.Tie as tie
 
-cast-q : tie.Need-cast-q
-cast-q c = search needs
+command-place-requires : tie.Need-command-place-requires
+command-place-requires c κs = search needs
 
-add-q : tie.Need-add-q
-add-q c = search needs
-
-mul-q : tie.Need-mul-q
-mul-q c = search needs
-
-add-q-2 : tie.Need-add-q-2
-add-q-2 c = search needs
-
-shared-slice-read-t9 : tie.Need-shared-slice-read-t9
-shared-slice-read-t9 c = search needs
+shared-slice-read-t6 : tie.Need-shared-slice-read-t6
+shared-slice-read-t6 c = search needs
 
 add-half-at : tie.Need-add-half-at
 add-half-at c = search needs
@@ -37,17 +28,14 @@ half-at-requires-3 : tie.Need-half-at-requires-3
 half-at-requires-3 c κs = search needs
 
 returns : tie.Need-returns
-returns c = simp (c .half-at3 .ensures, c .before .half-at2 .ensures, c .before .before .half-at .ensures)
+returns c = simp (c .half-at3 .ensures, c .before .half-at2 .ensures, c .before .before .half-at .ensures, c .before .before .before .before .command-place .ensures)
 
 pub command-at-spec : {M : Type 1} → statement M
 command-at-spec =
     tie.close
     (tie.spec
-    cast-q
-    add-q
-    mul-q
-    add-q-2
-    shared-slice-read-t9
+    command-place-requires
+    shared-slice-read-t6
     add-half-at
     half-at-requires
     add-half-at-2

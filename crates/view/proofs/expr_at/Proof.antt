@@ -3,20 +3,11 @@ use borrow.Author.Needs.{needs}
 use Rattle.view.proofs.expr_at.Statement.{statement}
 use Rattle.view.proofs.expr_at.Tie as tie
 
-cast-q : tie.Need-cast-q
-cast-q c = search needs
+expr-place-requires : tie.Need-expr-place-requires
+expr-place-requires c κs = search needs
 
-add-q : tie.Need-add-q
-add-q c = search needs
-
-mul-q : tie.Need-mul-q
-mul-q c = search needs
-
-add-q-2 : tie.Need-add-q-2
-add-q-2 c = search needs
-
-shared-slice-read-t9 : tie.Need-shared-slice-read-t9
-shared-slice-read-t9 c = search needs
+shared-slice-read-t6 : tie.Need-shared-slice-read-t6
+shared-slice-read-t6 c = search needs
 
 add-half-at : tie.Need-add-half-at
 add-half-at c = search needs
@@ -31,17 +22,14 @@ half-at-requires-2 : tie.Need-half-at-requires-2
 half-at-requires-2 c κs = search needs
 
 returns : tie.Need-returns
-returns c = simp (c .half-at2 .ensures, c .before .half-at .ensures)
+returns c = simp (c .half-at2 .ensures, c .before .half-at .ensures, c .before .before .before .expr-place .ensures)
 
 pub expr-at-spec : {M : Type 1} → statement M
 expr-at-spec =
     tie.close
     (tie.spec
-    cast-q
-    add-q
-    mul-q
-    add-q-2
-    shared-slice-read-t9
+    expr-place-requires
+    shared-slice-read-t6
     add-half-at
     half-at-requires
     add-half-at-2

@@ -1,19 +1,12 @@
 -- `view::start_at` meets its contract: a start row that the file has ends inside it, and what is read there is the row. Assumes nothing.
+use native.Mathlib.Omega.{arith}
 use borrow.Author.Needs.{needs}
+use Rattle.laws.specs.Known.{values-few}
 use Rattle.view.proofs.start_at.Statement.{statement}
 use Rattle.view.proofs.start_at.Tie as tie
 
-cast-q : tie.Need-cast-q
-cast-q c = search needs
-
-add-q : tie.Need-add-q
-add-q c = search needs
-
-mul-q : tie.Need-mul-q
-mul-q c = search needs
-
-add-q-2 : tie.Need-add-q-2
-add-q-2 c = search needs
+start-place-requires : tie.Need-start-place-requires
+start-place-requires c κs = omega (arith, values-few (c .before .pre .file .values))
 
 half-at-requires : tie.Need-half-at-requires
 half-at-requires c κs = search needs
@@ -31,16 +24,13 @@ word-at-requires : tie.Need-word-at-requires
 word-at-requires c κs = search needs
 
 returns : tie.Need-returns
-returns c = simp (c .word-at .ensures, c .before .half-at2 .ensures, c .before .before .half-at .ensures)
+returns c = simp (c .word-at .ensures, c .before .half-at2 .ensures, c .before .before .half-at .ensures, c .before .before .before .start-place .ensures)
 
 pub start-at-spec : {M : Type 1} → statement M
 start-at-spec =
     tie.close
     (tie.spec
-    cast-q
-    add-q
-    mul-q
-    add-q-2
+    start-place-requires
     half-at-requires
     add-half-at
     half-at-requires-2

@@ -1,20 +1,15 @@
--- `view::start_count` meets its contract: where the file goes on behind its commands the count is there, and past its end all bytes are 0. Assumes nothing.
+-- `view::start_count` meets its contract: it is the last of the counts. Assumes nothing.
+use mathlib.Core.Path.{ap}
 use borrow.Author.Needs.{needs}
-use Rattle.laws.specs.Known.{none-at, count-fits}
+use Rattle.view.specs.declared.Counts.{Counts}
 use Rattle.view.proofs.start_count.Statement.{statement}
 use Rattle.view.proofs.start_count.Tie as tie
 
-cast-q : tie.Need-cast-q
-cast-q c = search needs
+row-counts-requires : tie.Need-row-counts-requires
+row-counts-requires c κs = search needs
 
 returns : tie.Need-returns
-returns c = none-at (c .before .before .before .args .file .now) (c .before .before .before .args .at .values) (c .if1 .taken)
-
-half-at-requires : tie.Need-half-at-requires
-half-at-requires c κs = count-fits (c .before .before .before .pre .values) (c .if1 .left)
-
-returns-2 : tie.Need-returns-2
-returns-2 c = search needs
+returns c = ap (λ (r : Counts). r .values) (c .row-counts .ensures)
 
 pub start-count-spec : {M : Type 1} → statement M
-start-count-spec = tie.close (tie.spec cast-q returns half-at-requires returns-2)
+start-count-spec = tie.close (tie.spec row-counts-requires returns)

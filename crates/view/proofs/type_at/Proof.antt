@@ -3,20 +3,14 @@ use borrow.Author.Needs.{needs}
 use Rattle.view.proofs.type_at.Statement.{statement}
 use Rattle.view.proofs.type_at.Tie as tie
 
-cast-q : tie.Need-cast-q
-cast-q c = search needs
-
-mul-q : tie.Need-mul-q
-mul-q c = search needs
-
-add-q : tie.Need-add-q
-add-q c = search needs
+type-place-requires : tie.Need-type-place-requires
+type-place-requires c κs = search needs
 
 half-at-requires : tie.Need-half-at-requires
 half-at-requires c κs = search needs
 
 returns : tie.Need-returns
-returns c = simp (c .half-at .ensures)
+returns c = simp (c .half-at .ensures, c .before .type-place .ensures)
 
 pub type-at-spec : {M : Type 1} → statement M
-type-at-spec = tie.close (tie.spec cast-q mul-q add-q half-at-requires returns)
+type-at-spec = tie.close (tie.spec type-place-requires half-at-requires returns)

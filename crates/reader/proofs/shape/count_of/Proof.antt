@@ -26,8 +26,8 @@ row-counts-requires-2 c κs = search needs
 cast-result-2 : tie.Need-cast-result-2
 cast-result-2 c = search needs
 
-start-count-requires : tie.Need-start-count-requires
-start-count-requires c κs = search needs
+row-counts-requires-3 : tie.Need-row-counts-requires-3
+row-counts-requires-3 c κs = search needs
 
 cast-result-3 : tie.Need-cast-result-3
 cast-result-3 c = search needs
@@ -39,7 +39,7 @@ returns-2 : tie.Need-returns-2
 returns-2 c = meant (λ k. countOf (routine (c .before .before .before .before .before .args .file .now) (c .before .before .before .before .before .args .at)) k) (c .before .before .before .before .before .args .test) 2 (c .before .before .before .match .keys2) (ap (λ (r : Counts). r .commands) (c .before .row-counts2 .ensures))
 
 returns-3 : tie.Need-returns-3
-returns-3 c = meant-values (λ k. countOf (routine (c .before .before .before .args .file .now) (c .before .before .before .args .at)) k) (c .before .before .before .args .test) (c .before .match .keys3) (c .start-count .ensures) (c .start-count .ensures)
+returns-3 c = let e = ap (λ (r : Counts). r .values) (c .before .row-counts3 .ensures) in meant-values (λ k. countOf (routine (c .before .before .before .before .args .file .now) (c .before .before .before .before .args .at)) k) (c .before .before .before .before .args .test) (c .before .before .match .keys3) e e
 
 pub count-of-spec : {M : Type 1} → statement M
 count-of-spec =
@@ -51,7 +51,7 @@ count-of-spec =
     enum-told-2
     row-counts-requires-2
     cast-result-2
-    start-count-requires
+    row-counts-requires-3
     cast-result-3
     returns
     returns-2

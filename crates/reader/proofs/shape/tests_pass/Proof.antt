@@ -1,9 +1,9 @@
--- `shape::shaped` meets its contract: the first test that a row fails refuses it, and behind one that all pass the next one decides. Assumes nothing.
+-- `shape::tests_pass` meets its contract: the first test that a row fails refuses it, and behind one that all pass the next one decides. Assumes nothing.
 use Rattle.reader.proofs.Shapes.{test-fails, test-passes, behind-is}
 use Rattle.reader.specs.declared.shape.Test.the-variants.{Rising, Exprs, Commands}
 use borrow.Author.Needs.{needs}
-use Rattle.reader.proofs.shape.shaped.Statement.{statement}
-use Rattle.reader.proofs.shape.shaped.Tie as tie
+use Rattle.reader.proofs.shape.tests_pass.Statement.{statement}
+use Rattle.reader.proofs.shape.tests_pass.Tie as tie
 
 rows-pass-requires : tie.Need-rows-pass-requires
 rows-pass-requires c κs = search needs
@@ -47,8 +47,8 @@ rows-pass-requires-4 c κs = search needs
 returns-4 : tie.Need-returns-4
 returns-4 c = let s = c .before .before .before .before .before .before .before .before .before .before .before .args .file .now in let at = c .before .before .before .before .before .before .before .before .before .before .before .args .at in behind-is s at (test-passes s at Rising (c .before .before .before .before .before .before .before .before .before .rows-pass .result) (c .before .before .before .before .before .before .before .before .before .rows-pass .ensures) (c .before .before .before .before .before .before .before .before .match .keys1) (test-passes s at Exprs (c .before .before .before .before .before .before .rows-pass2 .result) (c .before .before .before .before .before .before .rows-pass2 .ensures) (c .before .before .before .before .before .match2 .keys1) (test-passes s at Commands (c .before .before .before .rows-pass3 .result) (c .before .before .before .rows-pass3 .ensures) (c .before .before .match3 .keys1) (c .rows-pass4 .ensures))))
 
-pub shaped-spec : {M : Type 1} → statement M
-shaped-spec =
+pub tests-pass-spec : {M : Type 1} → statement M
+tests-pass-spec =
     tie.close
     (tie.spec
     rows-pass-requires
