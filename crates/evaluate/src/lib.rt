@@ -1,6 +1,6 @@
 // Expression rows, run from the table.
-use values::Found;
 use rules::Value;
+use values::Found;
 use words::a_of;
 use words::high;
 use words::op_of;
@@ -70,7 +70,7 @@ fn load(memory: &[u64], row: u32, x: Found, left: u32) -> Answer
 }
 
 // A cell of a DYNAMIC home, read as an int.
-fn load_int(t: &[u64; 2113], memory: &[u64], row: u32, x: Found, left: u32) -> Answer
+fn load_int(t: &[u64; 2304], memory: &[u64], row: u32, x: Found, left: u32) -> Answer
     requires { ⌜ ((a : ℕ) → x ≡ Found.Is a → Inside (now memory) a) ⌝ }
     ensures { λ r. ⌜ r ≡ loadIntIn (now (t .entry)) (now (memory .entry)) row left x ⌝ }
 {
@@ -83,7 +83,7 @@ fn load_int(t: &[u64; 2113], memory: &[u64], row: u32, x: Found, left: u32) -> A
     }
 }
 
-fn one(t: &[u64; 2113], memory: &[u64], op: u64, row: u32, x: Got) -> Answer
+fn one(t: &[u64; 2304], memory: &[u64], op: u64, row: u32, x: Got) -> Answer
     requires { ⌜ Ready (now t) (now memory) op (x .value) ⌝ }
     ensures { λ r. ⌜ r ≡ says row (x .left) (oneIn (now (t .entry)) (now (memory .entry)) op (x .value)) ⌝ }
 {
@@ -137,9 +137,9 @@ fn on(x: Answer) -> Answer
 }
 
 // A row of the word w that has been entered and has operands: the operands left to right, then the row's rule.
-fn compound(t: &[u64; 2113], memory: &[u64], row: u32, w: u64, left: u32) -> Answer
+fn compound(t: &[u64; 2304], memory: &[u64], row: u32, w: u64, left: u32) -> Answer
     requires { ⌜ Operands (now t) (now memory) row w ⌝ }
-    ensures { λ x. ⌜ ((g : Asked (now (t .entry)) (now (memory .entry)) row) → told (g .table .routine) x ≡ entered g left) ⌝ }
+    ensures { λ x. ⌜ ((g : Asked (now (t .entry)) (now (memory .entry)) row) → told (g .rows .routine) x ≡ entered g left) ⌝ }
 {
     let op = op_of(w);
     let first = operand(t, memory, a_of(w), left);
@@ -158,9 +158,9 @@ fn compound(t: &[u64; 2113], memory: &[u64], row: u32, w: u64, left: u32) -> Ans
 }
 
 // An operand. A leaf is answered where it is asked for: that keeps it in registers.
-fn operand(t: &[u64; 2113], memory: &[u64], row: u32, fuel: u32) -> Answer
+fn operand(t: &[u64; 2304], memory: &[u64], row: u32, fuel: u32) -> Answer
     requires { ⌜ Asked (now t) (now memory) row ⌝ }
-    ensures { λ x. ⌜ ((g : Asked (now (t .entry)) (now (memory .entry)) row) → told (g .table .routine) x ≡ meant g fuel) ⌝ }
+    ensures { λ x. ⌜ ((g : Asked (now (t .entry)) (now (memory .entry)) row) → told (g .rows .routine) x ≡ meant g fuel) ⌝ }
 {
     if fuel == 0 {
         return Answer::Stopped(Stop::Fuel(row));
@@ -175,9 +175,9 @@ fn operand(t: &[u64; 2113], memory: &[u64], row: u32, fuel: u32) -> Answer
 }
 
 // The row's value with the fuel left, or what stopped it. The same for callers outside, so that `compound` has two and stays a function of its own.
-pub fn eval(t: &[u64; 2113], memory: &[u64], row: u32, fuel: u32) -> Answer
+pub fn eval(t: &[u64; 2304], memory: &[u64], row: u32, fuel: u32) -> Answer
     requires { ⌜ Asked (now t) (now memory) row ⌝ }
-    ensures { λ x. ⌜ ((g : Asked (now (t .entry)) (now (memory .entry)) row) → told (g .table .routine) x ≡ meant g fuel) ⌝ }
+    ensures { λ x. ⌜ ((g : Asked (now (t .entry)) (now (memory .entry)) row) → told (g .rows .routine) x ≡ meant g fuel) ⌝ }
 {
     if fuel == 0 {
         return Answer::Stopped(Stop::Fuel(row));

@@ -1,9 +1,9 @@
 // Command rows, run from the table.
-use values::Entry;
-use values::Found;
 use evaluate::Answer;
 use evaluate::Stop;
 use evaluate::eval;
+use values::Entry;
+use values::Found;
 use words::a_of;
 use words::b_of;
 use words::c_of;
@@ -46,9 +46,9 @@ fn on(x: Ran) -> Ran
 // ---- stores
 
 // The pointer's checks are made, and it reaches address a: the value, its conversion, then the store.
-fn put(t: &[u64; 2113], memory: &mut [u64], row: u32, w: u64, a: u32, left: u32) -> Ran
+fn put(t: &[u64; 2304], memory: &mut [u64], row: u32, w: u64, a: u32, left: u32) -> Ran
     requires { ⌜ Storing (now t) (now memory) row w a ⌝ }
-    ensures { λ r. ⌜ ((g : Commanded (now (t .entry)) (now (memory .entry)) row) → ranTold (g .table .routine) (g .table .homes) r (now (memory .exit)) ≡ storingRun g a left) ⌝ }
+    ensures { λ r. ⌜ ((g : Commanded (now (t .entry)) (now (memory .entry)) row) → ranTold (g .rows .routine) (g .homes .list) r (now (memory .exit)) ≡ storingRun g a left) ⌝ }
 {
     let value = eval(t, memory, b_of(w), left);
     let Answer::Done(y) = value else {
@@ -68,9 +68,9 @@ fn put(t: &[u64; 2113], memory: &mut [u64], row: u32, w: u64, a: u32, left: u32)
     }
 }
 
-fn store(t: &[u64; 2113], memory: &mut [u64], row: u32, w: u64, left: u32) -> Ran
+fn store(t: &[u64; 2304], memory: &mut [u64], row: u32, w: u64, left: u32) -> Ran
     requires { ⌜ Entered (now t) (now memory) row w 2 ⌝ }
-    ensures { λ r. ⌜ ((g : Commanded (now (t .entry)) (now (memory .entry)) row) → ranTold (g .table .routine) (g .table .homes) r (now (memory .exit)) ≡ enteredRun g left) ⌝ }
+    ensures { λ r. ⌜ ((g : Commanded (now (t .entry)) (now (memory .entry)) row) → ranTold (g .rows .routine) (g .homes .list) r (now (memory .exit)) ≡ enteredRun g left) ⌝ }
 {
     let pointer = eval(t, memory, a_of(w), left);
     let Answer::Done(x) = pointer else {
@@ -91,9 +91,9 @@ fn store(t: &[u64; 2113], memory: &mut [u64], row: u32, w: u64, left: u32) -> Ra
 
 // ---- rows that hold commands
 
-fn then(t: &[u64; 2113], memory: &mut [u64], row: u32, w: u64, left: u32) -> Ran
+fn then(t: &[u64; 2304], memory: &mut [u64], row: u32, w: u64, left: u32) -> Ran
     requires { ⌜ Entered (now t) (now memory) row w 1 ⌝ }
-    ensures { λ r. ⌜ ((g : Commanded (now (t .entry)) (now (memory .entry)) row) → ranTold (g .table .routine) (g .table .homes) r (now (memory .exit)) ≡ enteredRun g left) ⌝ }
+    ensures { λ r. ⌜ ((g : Commanded (now (t .entry)) (now (memory .entry)) row) → ranTold (g .rows .routine) (g .homes .list) r (now (memory .exit)) ≡ enteredRun g left) ⌝ }
 {
     let first = exec(t, memory, a_of(w), left);
     let Ran::Done(rest) = first else {
@@ -102,9 +102,9 @@ fn then(t: &[u64; 2113], memory: &mut [u64], row: u32, w: u64, left: u32) -> Ran
     exec(t, memory, b_of(w), rest)
 }
 
-fn choose(t: &[u64; 2113], memory: &mut [u64], row: u32, w: u64, left: u32) -> Ran
+fn choose(t: &[u64; 2304], memory: &mut [u64], row: u32, w: u64, left: u32) -> Ran
     requires { ⌜ Entered (now t) (now memory) row w 3 ⌝ }
-    ensures { λ r. ⌜ ((g : Commanded (now (t .entry)) (now (memory .entry)) row) → ranTold (g .table .routine) (g .table .homes) r (now (memory .exit)) ≡ enteredRun g left) ⌝ }
+    ensures { λ r. ⌜ ((g : Commanded (now (t .entry)) (now (memory .entry)) row) → ranTold (g .rows .routine) (g .homes .list) r (now (memory .exit)) ≡ enteredRun g left) ⌝ }
 {
     let test = eval(t, memory, a_of(w), left);
     let Answer::Done(x) = test else {
@@ -119,9 +119,9 @@ fn choose(t: &[u64; 2113], memory: &mut [u64], row: u32, w: u64, left: u32) -> R
 }
 
 // The turns of a while whose row has been entered; it is entered again for each further test.
-fn repeat(t: &[u64; 2113], memory: &mut [u64], row: u32, w: u64, fuel: u32) -> Ran
+fn repeat(t: &[u64; 2304], memory: &mut [u64], row: u32, w: u64, fuel: u32) -> Ran
     requires { ⌜ Entered (now t) (now memory) row w 4 ⌝ }
-    ensures { λ r. ⌜ ((g : Commanded (now (t .entry)) (now (memory .entry)) row) → ranTold (g .table .routine) (g .table .homes) r (now (memory .exit)) ≡ enteredRun g fuel) ⌝ }
+    ensures { λ r. ⌜ ((g : Commanded (now (t .entry)) (now (memory .entry)) row) → ranTold (g .rows .routine) (g .homes .list) r (now (memory .exit)) ≡ enteredRun g fuel) ⌝ }
 {
     let mut left = fuel;
     loop {
@@ -146,9 +146,9 @@ fn repeat(t: &[u64; 2113], memory: &mut [u64], row: u32, w: u64, fuel: u32) -> R
 }
 
 // The fuel left once the row is carried out, or what stopped it; and the memory as after the last store.
-pub fn exec(t: &[u64; 2113], memory: &mut [u64], row: u32, fuel: u32) -> Ran
+pub fn exec(t: &[u64; 2304], memory: &mut [u64], row: u32, fuel: u32) -> Ran
     requires { ⌜ Commanded (now t) (now memory) row ⌝ }
-    ensures { λ r. ⌜ ((g : Commanded (now (t .entry)) (now (memory .entry)) row) → ranTold (g .table .routine) (g .table .homes) r (now (memory .exit)) ≡ meantRun g fuel) ⌝ }
+    ensures { λ r. ⌜ ((g : Commanded (now (t .entry)) (now (memory .entry)) row) → ranTold (g .rows .routine) (g .homes .list) r (now (memory .exit)) ≡ meantRun g fuel) ⌝ }
 {
     if fuel == 0 {
         return Ran::Fuel(1024 + row);

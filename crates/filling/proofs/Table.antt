@@ -40,7 +40,7 @@ homes-stay {s} {at} {t} i w l h =
 pub exprs-none : {s m t : List ℕ} {at : Starts} → HomesDone s at t → ExprsDone s at m 0 t
 exprs-none h = record { before = h; words = λ e l. absurd (not-suc-le-zero l) }
 
-pub exprs-more : {s m t : List ℕ} {at : Starts} (i w : ℕ) → i < 1024 → ExprsDone s at m i t → ExprWord (routine s at) m (routine s at .homes) (routine s at .expr i) w
+pub exprs-more : {s m t : List ℕ} {at : Starts} (i w : ℕ) → i < 1024 → ExprsDone s at m i t → ExprWord (routine s at) m (routine s at .expr i) w
     → ExprsDone s at m (i + 1) (set t i w)
 exprs-more {s} {m} {t} {at} i w l h x =
     record {
@@ -93,7 +93,7 @@ drop-next (x ∷ l) (suc i) e = drop-next l i e
 
 -- Homes up to number i have their words; the next one starts at `from`.
 pub record HomesTo (s : List ℕ) (at : Starts) (n i from : ℕ) (t : List ℕ) : Type 0 where
-  pub size : length t ≡ 2113
+  pub size : length t ≡ 2304
   pub few : n ≤ 64
   pub fits : i ≤ n
   pub low : from ≤ 1 + 65536 * i

@@ -174,38 +174,38 @@ module _ {s m ty : List ℕ} {at : Starts} (y : Accepted s at m ty) where
     pub few-exprs : half s (at .exprs) ≤ 1024
     few-exprs = known .exprs .few
 
-    pub literal-word : (w : ℕ) → n ≡ 0 → Packed w 0 0 (a + 65536 * b) → ExprWord (routine s at) m (routine s at .homes) (routine s at .expr e) w
+    pub literal-word : (w : ℕ) → n ≡ 0 → Packed w 0 0 (a + 65536 * b) → ExprWord (routine s at) m (routine s at .expr e) w
     literal-word w h p = rw (← x, h) p
 
     pub home-made : (w : ℕ) (t : List ℕ) → n ≡ 1 → Homes (routine s at .homes) t
         → Packed w (homeOp (kind m (homeRow s at a .ty))) 0 (homeFieldIn t (kind m (homeRow s at a .ty)) a)
-        → ExprWord (routine s at) m (routine s at .homes) (routine s at .expr e) w
+        → ExprWord (routine s at) m (routine s at .expr e) w
     home-made w t h hs p =
         let (i, j) = home-range h in
         let g : homeRow s at a .ty ≡ homeAt (routine s at .homes) a .type = home-has s at a i j .type in
-        let k : a < 65 = omega (arith, j, known .homes .few) in
+        let k : a < 256 = omega (arith, j, known .homes .few) in
         rw (← x, h) (record { op = p .op ∙ ap (λ z. homeOp (kind m z)) g; first = p .first; second = p .second ∙ same (kind m (homeRow s at a .ty)) k ∙ ap (λ z. homeField (kind m z) (homeAt (routine s at .homes) a) a) g })
       where
-        same : (c : Kind) → a < 65 → homeFieldIn t c a ≡ homeField c (homeAt (routine s at .homes) a) a
+        same : (c : Kind) → a < 256 → homeFieldIn t c a ≡ homeField c (homeAt (routine s at .homes) a) a
         same int k = refl
         same SAFE k = hs .start a k
         same SEQ k = refl
         same DYNAMIC k = refl
 
-    pub cast-made : (w : ℕ) → n ≡ 3 → Packed w (castOp (kind m b)) a 0 → ExprWord (routine s at) m (routine s at .homes) (routine s at .expr e) w
+    pub cast-made : (w : ℕ) → n ≡ 3 → Packed w (castOp (kind m b)) a 0 → ExprWord (routine s at) m (routine s at .expr e) w
     cast-made w h p = rw (← x, h) p
 
-    pub null-made : (w : ℕ) → n ≡ 4 → Packed w (nullOp (kind m a)) 0 0 → ExprWord (routine s at) m (routine s at .homes) (routine s at .expr e) w
+    pub null-made : (w : ℕ) → n ≡ 4 → Packed w (nullOp (kind m a)) 0 0 → ExprWord (routine s at) m (routine s at .expr e) w
     null-made w h p = rw (← x, h) p
 
-    pub sum-made : (w : ℕ) → n ≡ 5 → Packed w 9 a b → ExprWord (routine s at) m (routine s at .homes) (routine s at .expr e) w
+    pub sum-made : (w : ℕ) → n ≡ 5 → Packed w 9 a b → ExprWord (routine s at) m (routine s at .expr e) w
     sum-made w h p = rw (← x, h) p
 
     pub read-made : (w p : ℕ) → n ≡ 6 → p ≡ getD ty a 0 → Packed w (readOp (kind m p) (kind m (typeRow s at p .target))) a 0
-        → ExprWord (routine s at) m (routine s at .homes) (routine s at .expr e) w
+        → ExprWord (routine s at) m (routine s at .expr e) w
     read-made w p h g k = let i : p ≡ typeOf (routine s at) a = g ∙ y .types a (read-before h) in rw (← x, h, ← i) k
 
-    pub operator-made : (w o : ℕ) → Operated n a b → o ≡ n - 6 → Packed w o a b → ExprWord (routine s at) m (routine s at .homes) (routine s at .expr e) w
+    pub operator-made : (w o : ℕ) → Operated n a b → o ≡ n - 6 → Packed w o a b → ExprWord (routine s at) m (routine s at .expr e) w
     operator-made w o z g p =
         let i : o ≡ operatorOp (operatorOf (n - 16)) = omega (arith, g, operator-at (n - 16) (omega (arith, z .to)), z .from) in
         rw (← x, z .is) (record { op = p .op ∙ i; first = p .first; second = p .second })

@@ -41,7 +41,7 @@ pub record Accepted (s : List ℕ) (at : Starts) (m ty : List ℕ) : Type 0 wher
 
 pub record HomeReady (s : List ℕ) (at : Starts) (m : List ℕ) (g : ℕ) : Type 0 where
   pub home : HomeAsked s at g
-  pub few : g < 65
+  pub few : g < 256
   pub kind : Kinded m (homeRow s at g .ty)
 
 pub record ReferenceReady (s : List ℕ) (at : Starts) (m : List ℕ) (p : ℕ) : Type 0 where
@@ -63,16 +63,16 @@ pub record CommandReady (s : List ℕ) (at : Starts) (m ty : List ℕ) (c : ℕ)
 pub record Blank (s : List ℕ) (at : Starts) (n : ℕ) (t : List ℕ) : Type 0 where
   pub file : WellRead s at
   pub count : n ≡ half s (at .homes)
-  pub size : length t ≡ 2113
+  pub size : length t ≡ 2304
   pub empty : (k : ℕ) → getD t k 0 ≡ 0
 
 pub record HomesDone (s : List ℕ) (at : Starts) (t : List ℕ) : Type 0 where
-  pub size : length t ≡ 2113
+  pub size : length t ≡ 2304
   pub homes : Homes (routine s at .homes) t
 
 pub record ExprsDone (s : List ℕ) (at : Starts) (m : List ℕ) (n : ℕ) (t : List ℕ) : Type 0 where
   pub before : HomesDone s at t
-  pub words : (e : ℕ) → e < n → ExprWord (routine s at) m (routine s at .homes) (routine s at .expr e) (getD t e 0)
+  pub words : (e : ℕ) → e < n → ExprWord (routine s at) m (routine s at .expr e) (getD t e 0)
 
 pub record CommandsDone (s : List ℕ) (at : Starts) (m : List ℕ) (n : ℕ) (t : List ℕ) : Type 0 where
   pub before : ExprsDone s at m (half s (at .exprs)) t

@@ -98,7 +98,7 @@ fn keep(k: u8, target: u8) -> u32
 
 // ---- the word of an expression row
 
-fn home_word(file: &[u8], at: Starts, marking: &[u8], t: &[u64; 2113], g: u16) -> u64
+fn home_word(file: &[u8], at: Starts, marking: &[u8], t: &[u64; 2304], g: u16) -> u64
     requires { ⌜ HomeReady (now file) at (now marking) g ⌝ }
     ensures { λ w. ⌜ Packed w (homeOp (kind (now (marking .entry)) (homeRow (now (file .entry)) at g .ty))) 0 (homeFieldIn (now (t .entry)) (kind (now (marking .entry)) (homeRow (now (file .entry)) at g .ty)) g) ⌝ }
 {
@@ -140,11 +140,11 @@ fn expr_word(
     at: Starts,
     marking: &[u8],
     ty: &[u16; 1024],
-    t: &[u64; 2113],
+    t: &[u64; 2304],
     e: usize,
 ) -> u64
     requires { ⌜ ExprReady (now file) at (now marking) (now ty) (now t) e ⌝ }
-    ensures { λ w. ⌜ ExprWord (routine (now (file .entry)) at) (now (marking .entry)) (routine (now (file .entry)) at .homes) (routine (now (file .entry)) at .expr e) w ⌝ }
+    ensures { λ w. ⌜ ExprWord (routine (now (file .entry)) at) (now (marking .entry)) (routine (now (file .entry)) at .expr e) w ⌝ }
 {
     let row = view::expr_row(file, at, e);
     let tag = row.tag;
@@ -199,7 +199,7 @@ fn row_word(file: &[u8], at: Starts, marking: &[u8], ty: &[u16; 1024], c: usize)
 
 // ---- the table
 
-fn fill_homes(file: &[u8], at: Starts, n: usize, t: &mut [u64; 2113])
+fn fill_homes(file: &[u8], at: Starts, n: usize, t: &mut [u64; 2304])
     requires { ⌜ Blank (now file) at n (now t) ⌝ }
     ensures { λ _. ⌜ HomesDone (now (file .entry)) at (now (t .exit)) ⌝ }
 {
@@ -221,7 +221,7 @@ fn fill_exprs(
     marking: &[u8],
     ty: &[u16; 1024],
     n: usize,
-    t: &mut [u64; 2113],
+    t: &mut [u64; 2304],
 )
     requires { ⌜ Accepted (now file) at (now marking) (now ty) × HomesDone (now file) at (now t) × (n ≡ half (now file) (at .exprs)) ⌝ }
     ensures { λ _. ⌜ ExprsDone (now (file .entry)) at (now (marking .entry)) n (now (t .exit)) ⌝ }
@@ -240,7 +240,7 @@ fn fill_commands(
     marking: &[u8],
     ty: &[u16; 1024],
     n: usize,
-    t: &mut [u64; 2113],
+    t: &mut [u64; 2304],
 )
     requires { ⌜ Accepted (now file) at (now marking) (now ty) × ExprsDone (now file) at (now marking) (half (now file) (at .exprs)) (now t) × (n ≡ half (now file) (at .commands)) ⌝ }
     ensures { λ _. ⌜ CommandsDone (now (file .entry)) at (now (marking .entry)) n (now (t .exit)) ⌝ }
@@ -254,8 +254,8 @@ fn fill_commands(
 }
 
 // The whole table of a file under a marking.
-pub fn fill(file: &[u8], at: Starts, marking: &[u8], ty: &[u16; 1024], t: &mut [u64; 2113])
-    requires { ⌜ Accepted (now file) at (now marking) (now ty) × (length (now t) ≡ 2113) × ((k : ℕ) → getD (now t) k 0 ≡ 0) ⌝ }
+pub fn fill(file: &[u8], at: Starts, marking: &[u8], ty: &[u16; 1024], t: &mut [u64; 2304])
+    requires { ⌜ Accepted (now file) at (now marking) (now ty) × (length (now t) ≡ 2304) × ((k : ℕ) → getD (now t) k 0 ≡ 0) ⌝ }
     ensures { λ _. ⌜ CommandsDone (now (file .entry)) at (now (marking .entry)) (half (now (file .entry)) (at .commands)) (now (t .exit)) ⌝ }
 {
     let n = view::row_counts(file, at);

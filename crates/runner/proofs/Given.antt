@@ -52,7 +52,7 @@ module _ {s : List ℕ} {at : Starts} (known : WellRead s at) {i : ℕ} (less : 
 
   -- ---- its cell
 
-  pub few-homes : row .home < 65
+  pub few-homes : row .home < 256
   few-homes = let asked = value-home known less is in omega (arith, asked .row, known .homes .few)
 
   module _ (formed : Formed (routine s at)) {t : List ℕ} (homes : Homes (routine s at .homes) t) where

@@ -15,7 +15,7 @@ use Rattle.laws.specs.Promises.{Ends, atStop, leftAfter}
 use Rattle.laws.specs.Start.{start-ok}
 use Rattle.laws.specs.Sound.{exec-ok}
 use Rattle.laws.specs.Units.{exec-spends}
-use Rattle.words.specs.Words.{Tabled}
+use Rattle.words.specs.Words.{RowWords, HomeWords}
 use Rattle.laws.specs.WellRead.{WellRead}
 use Rattle.filling.specs.Filling.{Accepted, CommandsDone}
 use Rattle.filling.proofs.Words.{known, well, fit}
@@ -83,20 +83,21 @@ module _ (s : List ℕ) (at : Starts) (hs : List Home) (memory : List ℕ) where
 -- ---- the whole
 
 module _ {s m ty t : List ℕ} {at : Starts} (y : Accepted s at m ty) (d : CommandsDone s at m (half s (at .commands)) t) where
-  abbrev pub table : Tabled t
-  table =
+  abbrev rows : RowWords t
+  rows =
       record {
         routine = routine s at;
         marking = m;
-        homes = routine s at .homes;
         formed = well y;
         accepted = fit y;
         fewExprs = known y .exprs .few;
         fewCommands = known y .commands .few;
         exprs = d .before .words;
         commands = d .words;
-        sizes = d .before .before .homes;
       }
+
+  abbrev homes : HomeWords (routine s at) t
+  homes = record { list = routine s at .homes; words = d .before .before .homes; declared = λ g h. refl }
 
   some : 1 ≤ half s (at .commands)
   some = known y .commands .least
@@ -106,9 +107,9 @@ module _ {s m ty t : List ℕ} {at : Starts} (y : Accepted s at m ty) (d : Comma
     body-in = omega (arith, some, i)
 
     abbrev pub body : Commanded t l c
-    body = record { table = table; valid = rw b (start-ok (routine s at) m (well y) lent); inside = body-in }
+    body = record { rows = rows; homes = homes; valid = rw b (start-ok (routine s at) m (well y) lent); inside = body-in }
 
-    module _ (fuel : ℕ) (x : Ran) (after : List ℕ) (right : (k : Commanded t l c) → ranTold (k .table .routine) (k .table .homes) x after ≡ meantRun k fuel) where
+    module _ (fuel : ℕ) (x : Ran) (after : List ℕ) (right : (k : Commanded t l c) → ranTold (k .rows .routine) (k .homes .list) x after ≡ meantRun k fuel) where
       abbrev H : List Home
       H = routine s at .homes
 

@@ -97,7 +97,7 @@ fn start_entry(file: &[u8], at: Starts, marking: &[u8], ty: &[u16; 1024], i: usi
 }
 
 // The place in memory of start row `i`'s cell.
-fn start_cell(file: &[u8], at: Starts, t: &[u64; 2113], i: usize) -> usize
+fn start_cell(file: &[u8], at: Starts, t: &[u64; 2304], i: usize) -> usize
     requires { ⌜ WellRead (now file) at × Formed (routine (now file) at) × Homes (routine (now file) at .homes) (now t) × (i < half (now file) (at .values)) ⌝ }
     ensures { λ r. ⌜ r ≡ startAddress (routine (now (file .entry)) at) (routine (now (file .entry)) at .value i) - 1 ⌝ }
 {
@@ -112,7 +112,7 @@ fn give(
     at: Starts,
     marking: &[u8],
     ty: &[u16; 1024],
-    t: &[u64; 2113],
+    t: &[u64; 2304],
     memory: &mut [u64],
 )
     requires { ⌜ Accepted (now file) at (now marking) (now ty) × Homes (routine (now file) at .homes) (now t) × (cellCount (routine (now file) at) ≤ length (now memory)) ⌝ }
@@ -190,7 +190,7 @@ pub fn run_checked(
     requires { ⌜ Accepted (now file) at (now marking) (now ty) × (cellCount (routine (now file) at) ≤ length (now memory)) ⌝ }
     ensures { λ r. ⌜ _≡_ {A = Left Ended} (record { answer = runSays (RunAnswer.Ran r); lent = now (memory .exit) }) (reported (run (routine (now (file .entry)) at) (now (marking .entry)) (now (memory .entry)) fuel)) ⌝ }
 {
-    let mut t = [0u64; 2113];
+    let mut t = [0u64; 2304];
     filling::fill(file, at, marking, ty, &mut t);
     let n = view::row_counts(file, at);
     clear(file, at, marking, ty, n.homes as usize, memory);

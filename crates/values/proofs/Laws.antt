@@ -23,7 +23,7 @@ use Rattle.values.specs.declared.Entry.{Entry}
 use Rattle.values.specs.declared.Entry.the-variants as entry
 use Rattle.values.specs.Values.{plusOf, toIntIn, toPair, toSafeIn, notNull, reachDynamicIn, reachIn, keptIn, foundOf, entryOf, safeEntry, asNumber}
 
-pub named-pair : (v : Value) (g n : ℕ) → v ≡ Pair g n → Named v → g < 65
+pub named-pair : (v : Value) (g n : ℕ) → v ≡ Pair g n → Named v → g < 256
 named-pair v g n h y = rw h at y
 
 pub named-as : (u v : Value) → u ≡ v → Named v → Named u

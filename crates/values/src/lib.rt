@@ -59,7 +59,7 @@ pub fn number(v: Value) -> u32
     }
 }
 
-pub fn to_int(t: &[u64; 2113], v: Value) -> u32
+pub fn to_int(t: &[u64; 2304], v: Value) -> u32
     requires { ⌜ Named v ⌝ }
     ensures { λ r. ⌜ r ≡ toIntIn (now (t .entry)) v ⌝ }
 {
@@ -78,7 +78,7 @@ pub fn to_pair(v: Value) -> Value
     }
 }
 
-pub fn to_safe(t: &[u64; 2113], v: Value) -> Found
+pub fn to_safe(t: &[u64; 2304], v: Value) -> Found
     requires { ⌜ Named v ⌝ }
     ensures { λ r. ⌜ r ≡ foundOf (toSafeIn (now (t .entry)) v) ⌝ }
 {
@@ -120,7 +120,7 @@ pub fn reach_safe(v: Value) -> Found
     not_null(number(v))
 }
 
-pub fn reach_seq(t: &[u64; 2113], v: Value) -> Found
+pub fn reach_seq(t: &[u64; 2304], v: Value) -> Found
     requires { ⌜ Named v ⌝ }
     ensures { λ r. ⌜ r ≡ foundOf (reachSeqIn (now (t .entry)) v) ⌝ }
 {
@@ -131,7 +131,7 @@ pub fn reach_seq(t: &[u64; 2113], v: Value) -> Found
     }
 }
 
-pub fn reach_dynamic(t: &[u64; 2113], v: Value) -> Found
+pub fn reach_dynamic(t: &[u64; 2304], v: Value) -> Found
     requires { ⌜ Named v ⌝ }
     ensures { λ r. ⌜ r ≡ foundOf (reachDynamicIn (now (t .entry)) v) ⌝ }
 {
@@ -149,7 +149,7 @@ pub fn reach_dynamic(t: &[u64; 2113], v: Value) -> Found
     }
 }
 
-pub fn reach(t: &[u64; 2113], access: u32, v: Value) -> Found
+pub fn reach(t: &[u64; 2304], access: u32, v: Value) -> Found
     requires { ⌜ Named v ⌝ }
     ensures { λ r. ⌜ r ≡ foundOf (reachIn (now (t .entry)) access v) ⌝ }
 {
@@ -172,7 +172,7 @@ fn safe_entry(x: Found) -> Entry
     }
 }
 
-pub fn kept(t: &[u64; 2113], how: u32, v: Value) -> Entry
+pub fn kept(t: &[u64; 2304], how: u32, v: Value) -> Entry
     requires { ⌜ Named v ⌝ }
     ensures { λ r. ⌜ r ≡ entryOf (keptIn (now (t .entry)) how v) ⌝ }
 {

@@ -1,4 +1,4 @@
--- The words of a routine's rows under a marking, and of its homes. Code that sees only the words is held to the routine by `Tabled`.
+-- The words of a routine's rows under a marking, and of homes. Code that sees only the words is held to the routine by `RowWords`, and to the homes by `HomeWords`.
 use mathlib.Core.Path.{_≡_}
 use Prim.Native.Nat.{ℕ, _+_, _/_, _%_, _<_, _≤_}
 use mathlib.Core.List.{List}
@@ -11,6 +11,7 @@ use Rattle.rules.specs.declared.Kind.{Kind}
 use Rattle.rules.specs.declared.Kind.the-variants.{int, SAFE, SEQ, DYNAMIC}
 use Rattle.rules.specs.Kinds.{kind, Acceptable}
 use Rattle.rules.specs.Memory.{State}
+use Rattle.rules.specs.Valid.{Real}
 use Rattle.laws.specs.Formed.{Formed}
 
 -- ---- parts of a word
@@ -96,10 +97,10 @@ homeField SAFE h g = h .start
 homeField SEQ h g = g
 homeField DYNAMIC h g = g
 
-module _ (r : Routine) (m : List ℕ) (hs : List Home) where
+module _ (r : Routine) (m : List ℕ) where
   abbrev pub bFor : Expr → ℕ
   bFor (literal n) = n
-  bFor (home g) = homeField (kind m (homeAt (r .homes) g .type)) (homeAt hs g) g
+  bFor (home g) = homeField (kind m (homeAt (r .homes) g .type)) (homeAt (r .homes) g) g
   bFor (cast a t) = 0
   bFor (null t) = 0
   bFor (sum a b) = b
@@ -189,30 +190,36 @@ startIn t g = getD t (2048 + g) 0 % 4294967296
 abbrev pub sizeIn : List ℕ → ℕ → ℕ
 sizeIn t g = getD t (2048 + g) 0 / 4294967296
 
+-- The words of these homes, home 0 first. A home that there is not has start and size 0.
 pub record Homes (hs : List Home) (t : List ℕ) : Type 0 where
-  pub few : (g : ℕ) → 0 < homeAt hs g .size → g < 65
-  pub start : (g : ℕ) → g < 65 → startIn t g ≡ homeAt hs g .start
-  pub size : (g : ℕ) → g < 65 → sizeIn t g ≡ homeAt hs g .size
+  pub few : (g : ℕ) → 0 < homeAt hs g .size → g < 256
+  pub start : (g : ℕ) → g < 256 → startIn t g ≡ homeAt hs g .start
+  pub size : (g : ℕ) → g < 256 → sizeIn t g ≡ homeAt hs g .size
 
--- A pair that names one of the table's homes.
+-- A pair that names a home of which the table has a word.
 abbrev pub Named : Value → Type 0
 Named (Number n) = Unit {0}
-Named (Pair g n) = g < 65
+Named (Pair g n) = g < 256
 
--- ---- the whole table: a routine, a marking and homes that it stands for. No code holds them
+-- ---- the whole table: what its rows' words stand for, and what its homes' words do. No code holds either
 
-pub record Tabled (t : List ℕ) : Type 0 where
+-- A routine and a marking. These words never change while running.
+pub record RowWords (t : List ℕ) : Type 0 where
   pub routine : Routine
   pub marking : List ℕ
-  pub homes : List Home
   pub formed : Formed routine
   pub accepted : Acceptable routine marking
   pub fewExprs : routine .exprs ≤ 1024
   pub fewCommands : routine .commands ≤ 1024
-  pub exprs : (e : ℕ) → e < routine .exprs → ExprWord routine marking homes (routine .expr e) (getD t e 0)
+  pub exprs : (e : ℕ) → e < routine .exprs → ExprWord routine marking (routine .expr e) (getD t e 0)
   pub commands : (c : ℕ) → c < routine .commands → CommandWord routine marking (routine .command c) (getD t (1024 + c) 0)
-  pub sizes : Homes homes t
 
--- The state of a table's homes and a memory.
-abbrev pub state : {t : List ℕ} → Tabled t → List ℕ → State
-state g memory = record { homes = g .homes; memory = memory }
+-- The homes that there are. Those of the routine stay where they are: its rows' words tell their addresses.
+pub record HomeWords (r : Routine) (t : List ℕ) : Type 0 where
+  pub list : List Home
+  pub words : Homes list t
+  pub declared : (g : ℕ) → Real (r .homes) g → homeAt list g .start ≡ homeAt (r .homes) g .start
+
+-- The state of these homes and a memory.
+abbrev pub state : {r : Routine} {t : List ℕ} → HomeWords r t → List ℕ → State
+state h memory = record { homes = h .list; memory = memory }

@@ -49,15 +49,15 @@ pub fn high(w: u64) -> u32
 }
 
 // Home g's start and size.
-pub fn start_of(t: &[u64; 2113], g: u32) -> u32
-    requires { ⌜ g < 65 ⌝ }
+pub fn start_of(t: &[u64; 2304], g: u32) -> u32
+    requires { ⌜ g < 256 ⌝ }
     ensures { λ r. ⌜ r ≡ startIn (now (t .entry)) g ⌝ }
 {
     low(t[2048 + g as usize])
 }
 
-pub fn size_of(t: &[u64; 2113], g: u32) -> u32
-    requires { ⌜ g < 65 ⌝ }
+pub fn size_of(t: &[u64; 2304], g: u32) -> u32
+    requires { ⌜ g < 256 ⌝ }
     ensures { λ r. ⌜ r ≡ sizeIn (now (t .entry)) g ⌝ }
 {
     high(t[2048 + g as usize])

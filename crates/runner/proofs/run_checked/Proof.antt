@@ -13,7 +13,7 @@ use Rattle.runner.proofs.run_checked.Statement.{statement}
 use Rattle.runner.proofs.run_checked.Tie as tie
 
 fill-requires : tie.Need-fill-requires
-fill-requires c κs = (c .before .before .before .before .pre .0, refl, λ k. zeros 2113 k)
+fill-requires c κs = (c .before .before .before .before .pre .0, refl, λ k. zeros 2304 k)
 
 row-counts-requires : tie.Need-row-counts-requires
 row-counts-requires c κs = known (c .before .before .before .before .before .pre .0)
