@@ -29,7 +29,7 @@ use Rattle.laws.specs.Depth.{eval-row}
 use Rattle.laws.specs.Formed.{Fits, ref-type, ref-kind}
 use Rattle.laws.specs.Steps.{Answers as Told-is, value as is-value, stop as is-stop}
 use Rattle.laws.specs.Sound.{eval-ok}
-use Rattle.words.specs.Words.{homeOp, nullOp, castOp, readOp, operatorOp, opFor, aFor, homeField, bFor, ExprWord, Named, state}
+use Rattle.words.specs.Words.{opIn, aIn, highIn, homeOp, nullOp, castOp, readOp, operatorOp, opFor, aFor, homeField, bFor, ExprWord, Named, state}
 use Rattle.evaluate.proofs.Answer as answer
 use Rattle.evaluate.specs.declared.Got.{Got}
 use Rattle.evaluate.specs.declared.Stop.the-variants.{Fuel}
@@ -287,15 +287,15 @@ module _ {t memory : List ℕ} {row : ℕ} (g : Asked t memory row) where
   sound f = rw (once f) at (eval-ok (g .rows .formed) (g .rows .accepted) (g .valid) row (suc f) (g .inside) .answer)
 
   module _ (f w : ℕ) (z : f ≡ 0 → ⊥) (e : w ≡ getD t row 0) where
-    pub a-leaf : (o : ℕ) (x : Answer) → o ≡ w % 256 → o < 2 → x ≡ gave (leafValue (w % 256) (w / 4294967296)) (f - 1) → told (g .rows .routine) x ≡ meant g f
+    pub a-leaf : (o : ℕ) (x : Answer) → o ≡ opIn w → o < 2 → x ≡ gave (leafValue (opIn w) (highIn w)) (f - 1) → told (g .rows .routine) x ≡ meant g f
     a-leaf o x h l i =
-        let p : w % 256 ≡ opFor R M X = rw e (word .op) in
-        let q : w / 4294967296 ≡ bFor R M X = rw e (word .second) in
+        let p : opIn w ≡ opFor R M X = rw e (word .op) in
+        let q : highIn w ≡ bFor R M X = rw e (word .second) in
         let s : entered g (f - 1) ≡ got (leafValue (opFor R M X) (bFor R M X)) (f - 1)
         = leaf-row R M W (λ a f₁. eval R M W a f₁) P row (g .homes .declared) X (f - 1) fits (omega (arith, h, p, l)) in
-        ap (told R) i ∙ ap (λ k. got (leafValue k (w / 4294967296)) (f - 1)) p ∙ ap (λ k. got (leafValue (opFor R M X) k) (f - 1)) q ∙ sym (step f z ∙ s)
+        ap (told R) i ∙ ap (λ k. got (leafValue k (highIn w)) (f - 1)) p ∙ ap (λ k. got (leafValue (opFor R M X) k) (f - 1)) q ∙ sym (step f z ∙ s)
 
-    pub has-operands : (o : ℕ) → o ≡ w % 256 → 2 ≤ o → Operands t memory row w
+    pub has-operands : (o : ℕ) → o ≡ opIn w → 2 ≤ o → Operands t memory row w
     has-operands o h l = record { asked = g; word = e; some = omega (arith, h, l) }
 
     pub a-compound : (x y : Answer) → x ≡ y → told (g .rows .routine) y ≡ entered g (f - 1) → told (g .rows .routine) x ≡ meant g f
@@ -305,23 +305,23 @@ module _ {t memory : List ℕ} {row : ℕ} (g : Asked t memory row) where
   abbrev pub Right : (a f : ℕ) → Answer → Type 0
   Right a f x = (k : Asked t memory a) → told (k .rows .routine) x ≡ meant k f
 
-  module _ (w : ℕ) (e : w ≡ getD t row 0) (o a f : ℕ) (h : o ≡ w % 256) (i : a ≡ w / 256 % 65536) where
+  module _ (w : ℕ) (e : w ≡ getD t row 0) (o a f : ℕ) (h : o ≡ opIn w) (i : a ≡ aIn w) where
     is-op : opFor R M X ≡ o
     is-op = sym (h ∙ rw e (word .op))
 
     is-first : aFor X ≡ a
     is-first = sym (i ∙ rw e (word .first))
 
-    pub first-before : 2 ≤ w % 256 → a < row
+    pub first-before : 2 ≤ opIn w → a < row
     first-before l = rw (← is-first) (first-early R M row X fits (omega (arith, is-op, h, l)))
 
-    one-equation : 2 ≤ w % 256 → o < 9 → entered g f ≡ value stopped (ev a f) λ v f₁. answered P f₁ (oneRule W o v)
+    one-equation : 2 ≤ opIn w → o < 9 → entered g f ≡ value stopped (ev a f) λ v f₁. answered P f₁ (oneRule W o v)
     one-equation l u =
         one-row R M W (λ a f₁. eval R M W a f₁) P row X f (g .rows .formed .exprs row (g .inside) .1) (omega (arith, is-op, h, l)) (omega (arith, is-op, u))
         ∙ ap (λ k. value stopped (ev (aFor X) f) λ v f₁. answered P f₁ (oneRule W k v)) is-op
         ∙ ap (λ k. value stopped (ev k f) λ v f₁. answered P f₁ (oneRule W o v)) is-first
 
-    module _ (b : ℕ) (j : b ≡ w / 4294967296) where
+    module _ (b : ℕ) (j : b ≡ highIn w) where
       is-second : bFor R M X ≡ b
       is-second = sym (j ∙ rw e (word .second))
 
@@ -337,7 +337,7 @@ module _ {t memory : List ℕ} {row : ℕ} (g : Asked t memory row) where
 
     -- ---- the first operand
 
-    module _ (l : 2 ≤ w % 256) (y : Answer) (right : Right a f y) where
+    module _ (l : 2 ≤ opIn w) (y : Answer) (right : Right a f y) where
       first-right : told (g .rows .routine) y ≡ ev a f
       first-right = right (earlier g a (first-before l))
 
@@ -347,7 +347,7 @@ module _ {t memory : List ℕ} {row : ℕ} (g : Asked t memory row) where
           go : (o < 9) ⊎ (9 ≤ o) → told (g .rows .routine) y ≡ entered g f
           go (inl u) = stop-passes R y (λ v f₁. answered P f₁ (oneRule W o v)) tag ∙ rw (one-equation l u, first-right)
           go (inr u) =
-              stop-passes R y (λ v f₁. value stopped (ev (w / 4294967296) f₁) λ k f₂. answered P f₂ (twoRule o v k)) tag
+              stop-passes R y (λ v f₁. value stopped (ev (highIn w) f₁) λ k f₂. answered P f₂ (twoRule o v k)) tag
               ∙ rw (two-equation _ refl u, first-right)
 
       module _ (z : Got) (d : y ≡ Done z) where
@@ -379,7 +379,7 @@ module _ {t memory : List ℕ} {row : ℕ} (g : Asked t memory row) where
 
         -- ---- the second operand
 
-        module _ (u : 9 ≤ o) (b : ℕ) (j : b ≡ w / 4294967296) (x : Answer) (right₂ : Right b (z .left) x) where
+        module _ (u : 9 ≤ o) (b : ℕ) (j : b ≡ highIn w) (x : Answer) (right₂ : Right b (z .left) x) where
           second-right : told (g .rows .routine) x ≡ ev b (z .left)
           second-right = right₂ (earlier g b (second-before b j u))
 

@@ -16,7 +16,8 @@ use Rattle.rules.specs.Valid.{ValidState}
 use Rattle.laws.specs.Promises.{leftAfter}
 use Rattle.laws.specs.Forget.{value, rule, entry, ended, turn-answer}
 use Rattle.laws.specs.Units.{leftOf, eval-spends, exec-spends}
-use Rattle.words.specs.Words.{firstFor, secondFor, state}
+use Rattle.words.specs.Ops.{opWhile}
+use Rattle.words.specs.Words.{aIn, bIn, firstFor, secondFor, state}
 use Rattle.values.specs.Values.{numberOf}
 use Rattle.evaluate.proofs.Answer as answer
 use Rattle.evaluate.proofs.Rules.{Fine}
@@ -68,14 +69,14 @@ module _ {t start : List ℕ} {row : ℕ} (g : Commanded t start row) where
   pub turned-start : (fuel : ℕ) → Turned fuel start fuel
   turned-start fuel = record { bound = suc fuel; more = omega arith; same = refl; valid = g .valid }
 
-  module _ {w : ℕ} (y : Entered t start row w 4) (fuel : ℕ) where
+  module _ {w : ℕ} (y : Entered t start row w opWhile) (fuel : ℕ) where
     whole : enteredRun g fuel ≡ from (suc fuel) start fuel
     whole = while-row R M (λ w a f₁. exec R M w a f₁) P (at start) fuel X (is-op g y)
 
     pub names : (firstFor X < R .exprs) × (secondFor X < row)
     names = while-early R M row X (g .rows .formed .commands row (g .inside) .0) (is-op g y)
 
-    module _ (l : List ℕ) (left : ℕ) (turned : Turned fuel l left) (a : ℕ) (i : a ≡ w / 256 % 65536) where
+    module _ (l : List ℕ) (left : ℕ) (turned : Turned fuel l left) (a : ℕ) (i : a ≡ aIn w) where
       abbrev pub test-asked : Asked t l a
       test-asked = expression g l (turned .valid) a (rw (← is-first g y a i) (names .0))
 
@@ -112,7 +113,7 @@ module _ {t start : List ℕ} {row : ℕ} (g : Commanded t start row) where
           pub loop-ends : n ≡ 0 → ranTold (g .rows .routine) (g .homes .list) (Done (v .left)) l ≡ enteredRun g fuel
           loop-ends z = rw (past-test, truth-false (v .value) test-fine (sym j ∙ z))
 
-          module _ (z : n ≡ 0 → ⊥) (b : ℕ) (k : b ≡ w / 16777216 % 65536) where
+          module _ (z : n ≡ 0 → ⊥) (b : ℕ) (k : b ≡ bIn w) where
             pub body-before : b < row
             body-before = rw (← is-second g y b k) (names .1)
 

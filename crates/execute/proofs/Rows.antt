@@ -29,7 +29,8 @@ use Rattle.laws.specs.Depth.{exec-row}
 use Rattle.laws.specs.Formed.{CommandFits}
 use Rattle.laws.specs.Steps.{steps-valid}
 use Rattle.laws.specs.Sound.{eval-ok, exec-ok}
-use Rattle.words.specs.Words.{commandOp, firstFor, secondFor, accessOf, keepOf, thirdFor, fourthFor, CommandWord, Named, state}
+use Rattle.words.specs.Ops.{opThen, opStore, opIf, opWhile}
+use Rattle.words.specs.Words.{opIn, aIn, bIn, cIn, dIn, commandOp, firstFor, secondFor, accessOf, keepOf, thirdFor, fourthFor, CommandWord, Named, state}
 use Rattle.values.specs.declared.Found.{Found}
 use Rattle.values.specs.declared.Found.the-variants as found
 use Rattle.values.specs.declared.Entry.{Entry}
@@ -309,14 +310,14 @@ module _ {t memory : List ℕ} {row : ℕ} (g : Commanded t memory row) where
   named-value a f v f₁ l e =
       valid-named (g .homes .words) (value-of (rw e at (eval-ok (g .rows .formed) (g .rows .accepted) (g .valid) a f l .answer)))
 
-  module _ (f w o : ℕ) (z : f ≡ 0 → ⊥) (h : o ≡ w % 256) (e : w ≡ getD t (1024 + row) 0) where
+  module _ (f w o : ℕ) (z : f ≡ 0 → ⊥) (h : o ≡ opIn w) (e : w ≡ getD t (1024 + row) 0) where
     pub has-word : (k : ℕ) → o ≡ k → Entered t memory row w k
     has-word k q = record { asked = g; word = e; op = sym h ∙ q }
 
     op-is : commandOp X ≡ o
     op-is = sym (h ∙ rw e (word .op))
 
-    pub has-while : (o ≡ 0 → ⊥) → (o ≡ 1 → ⊥) → (o ≡ 2 → ⊥) → (o ≡ 3 → ⊥) → Entered t memory row w 4
+    pub has-while : (o ≡ 0 → ⊥) → (o ≡ 1 → ⊥) → (o ≡ 2 → ⊥) → (o ≡ 3 → ⊥) → Entered t memory row w opWhile
     has-while a b c d = has-word 4 (sym op-is ∙ else-while X (λ q. a (sym op-is ∙ q)) (λ q. b (sym op-is ∙ q)) (λ q. c (sym op-is ∙ q)) (λ q. d (sym op-is ∙ q)))
 
     pub a-skip : o ≡ 0 → ranTold (g .rows .routine) (g .homes .list) (Done (f - 1)) memory ≡ meantRun g f
@@ -331,28 +332,28 @@ module _ {t memory : List ℕ} {row : ℕ} (g : Commanded t memory row) where
     pub is-op : commandOp X ≡ k
     is-op = sym (word .op) ∙ rw (← y .word) (y .op)
 
-    pub is-first : (a : ℕ) → a ≡ w / 256 % 65536 → firstFor X ≡ a
+    pub is-first : (a : ℕ) → a ≡ aIn w → firstFor X ≡ a
     is-first a i = sym (i ∙ rw (y .word) (word .first))
 
-    pub is-second : (b : ℕ) → b ≡ w / 16777216 % 65536 → secondFor X ≡ b
+    pub is-second : (b : ℕ) → b ≡ bIn w → secondFor X ≡ b
     is-second b i = sym (i ∙ rw (y .word) (word .second))
 
-    is-third : (c : ℕ) → c ≡ w / 1099511627776 % 65536 → thirdFor R M X ≡ c
+    is-third : (c : ℕ) → c ≡ cIn w → thirdFor R M X ≡ c
     is-third c i = sym (i ∙ rw (y .word) (word .third))
 
-    is-fourth : (d : ℕ) → d ≡ w / 72057594037927936 → fourthFor R M X ≡ d
+    is-fourth : (d : ℕ) → d ≡ dIn w → fourthFor R M X ≡ d
     is-fourth d i = sym (i ∙ rw (y .word) (word .fourth))
 
   -- ---- a store
 
-  module _ {w : ℕ} (y : Entered t memory row w 2) (f : ℕ) where
+  module _ {w : ℕ} (y : Entered t memory row w opStore) (f : ℕ) where
     store-equation : enteredRun g f ≡ value (halted W) (eval R M W (firstFor X) f .answer) λ v f₁. rule (halted W) P f₁ (reach W K v) λ c. storingRun g c f₁
     store-equation = store-row R M (λ w a f₁. exec R M w a f₁) P W f X (is-op y)
 
     pub store-names : (firstFor X < R .exprs) × (secondFor X < R .exprs)
     store-names = store-early R M row X fits (is-op y)
 
-    module _ (a : ℕ) (i : a ≡ w / 256 % 65536) where
+    module _ (a : ℕ) (i : a ≡ aIn w) where
       abbrev pub pointer-asked : Asked t memory a
       pointer-asked = expression g memory (g .valid) a (rw (← is-first y a i) (store-names .0))
 
@@ -375,7 +376,7 @@ module _ {t memory : List ℕ} {row : ℕ} (g : Commanded t memory row) where
           past-pointer : enteredRun g f ≡ rule (halted W) P (v .left) (reach W K (v .value)) λ c. storingRun g c (v .left)
           past-pointer = at-pointer ∙ rw pointer-gave
 
-          module _ (c : ℕ) (j : c ≡ w / 1099511627776 % 65536) (s : Found) (q : s ≡ foundOf (reachIn t c (v .value))) where
+          module _ (c : ℕ) (j : c ≡ cIn w) (s : Found) (q : s ≡ foundOf (reachIn t c (v .value))) where
             access-is : reach W K (v .value) ≡ reachIn t c (v .value)
             access-is =
                 reach-is (g .homes .words) (g .valid) K (v .value) pointer-named
@@ -396,7 +397,7 @@ module _ {t memory : List ℕ} {row : ℕ} (g : Commanded t memory row) where
             a-store n r h p = p ∙ rw (past-pointer, reached n h)
 
     -- The value of a store, past its pointer.
-    module _ (b : ℕ) (i : b ≡ w / 16777216 % 65536) where
+    module _ (b : ℕ) (i : b ≡ bIn w) where
       abbrev pub value-asked : Asked t memory b
       value-asked = expression g memory (g .valid) b (rw (← is-second y b i) (store-names .1))
 
@@ -422,7 +423,7 @@ module _ {t memory : List ℕ} {row : ℕ} (g : Commanded t memory row) where
           past-value : storingRun g c f ≡ rule (halted W) P (v .left) (Keeps (v .value)) λ u. done (put W c u) (v .left)
           past-value = at-value c ∙ rw value-gave
 
-          module _ (h : ℕ) (j : h ≡ w / 72057594037927936) (s : Entry) (q : s ≡ entryOf (keptIn t h (v .value))) where
+          module _ (h : ℕ) (j : h ≡ dIn w) (s : Entry) (q : s ≡ entryOf (keptIn t h (v .value))) where
             keep-is : Keeps (v .value) ≡ keptIn t h (v .value)
             keep-is =
                 kept-is (g .homes .words) memory K (kind M (R .target (typeOf R (firstFor X)))) (v .value) value-named
@@ -437,7 +438,7 @@ module _ {t memory : List ℕ} {row : ℕ} (g : Commanded t memory row) where
 
   -- ---- one command after another
 
-  module _ {w : ℕ} (y : Entered t memory row w 1) (f a : ℕ) (i : a ≡ w / 256 % 65536) where
+  module _ {w : ℕ} (y : Entered t memory row w opThen) (f a : ℕ) (i : a ≡ aIn w) where
     then-names : (firstFor X < row) × (secondFor X < row)
     then-names = then-early R M row X fits (is-op y)
 
@@ -457,7 +458,7 @@ module _ {t memory : List ℕ} {row : ℕ} (g : Commanded t memory row) where
       first-stops r tag q =
           ap (λ s. ranTold R H s l) q ∙ ran-told R H l x (λ w₁ f₁. exec R M w₁ (secondFor X) f₁ .answer) tag ∙ rw (right first-asked, at-first)
 
-      module _ (f₁ : ℕ) (d : x ≡ Done f₁) (b : ℕ) (j : b ≡ w / 16777216 % 65536) where
+      module _ (f₁ : ℕ) (d : x ≡ Done f₁) (b : ℕ) (j : b ≡ bIn w) where
         pub first-gave : exec R M W a f .answer ≡ done (state (g .homes) l) f₁
         first-gave = sym (right first-asked) ∙ ap (λ s. ranTold R H s l) d
 
@@ -472,7 +473,7 @@ module _ {t memory : List ℕ} {row : ℕ} (g : Commanded t memory row) where
 
   -- ---- a condition
 
-  module _ {w : ℕ} (y : Entered t memory row w 3) (f a : ℕ) (i : a ≡ w / 256 % 65536) where
+  module _ {w : ℕ} (y : Entered t memory row w opIf) (f a : ℕ) (i : a ≡ aIn w) where
     pub if-names : (firstFor X < R .exprs) × (secondFor X < row) × (thirdFor R M X < row)
     if-names = if-early R M row X fits (is-op y)
 
@@ -500,7 +501,7 @@ module _ {t memory : List ℕ} {row : ℕ} (g : Commanded t memory row) where
         test-fine : Fine (truth (v .value))
         test-fine = rule-fine W P (v .left) (truth (v .value)) (λ t. Branch (v .left) t) (rw past-test at (sound f))
 
-        module _ (b : ℕ) (k : b ≡ w / 16777216 % 65536) where
+        module _ (b : ℕ) (k : b ≡ bIn w) where
           pub then-before : b < row
           then-before = rw (← is-second y b k) (if-names .1)
 
@@ -509,7 +510,7 @@ module _ {t memory : List ℕ} {row : ℕ} (g : Commanded t memory row) where
               p (command g memory (g .valid) b then-before)
               ∙ rw (past-test, truth-true (v .value) test-fine (λ q. z (j ∙ q)), is-second y b k)
 
-        module _ (c : ℕ) (k : c ≡ w / 1099511627776 % 65536) where
+        module _ (c : ℕ) (k : c ≡ cIn w) where
           pub else-before : c < row
           else-before = rw (← is-third y c k) (if-names .2)
 

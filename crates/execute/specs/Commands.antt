@@ -1,6 +1,6 @@
 -- What the carrying out of a command row from its word is held to: the answer, and every entry of the memory.
 use mathlib.Core.Path.{_≡_}
-use Prim.Native.Nat.{ℕ, _+_, _%_, _<_}
+use Prim.Native.Nat.{ℕ, _+_, _<_}
 use mathlib.Core.List.{List}
 use lib.ListN.{getD}
 use Rattle.rules.specs.Table.{Home, Routine}
@@ -11,7 +11,8 @@ use Rattle.rules.specs.Values.{kept}
 use Rattle.rules.specs.Run.{noFuel, Ran as Runs, done, halted, eval, commandRow, exec}
 use Rattle.rules.specs.Valid.{ValidState}
 use Rattle.laws.specs.Forget.{value, rule}
-use Rattle.words.specs.Words.{firstFor, secondFor, RowWords, HomeWords, state}
+use Rattle.words.specs.Ops.{opStore}
+use Rattle.words.specs.Words.{opIn, firstFor, secondFor, RowWords, HomeWords, state}
 use Rattle.evaluate.specs.declared.Stop.the-variants as stop
 use Rattle.evaluate.specs.declared.Answer.{Answer}
 use Rattle.evaluate.specs.declared.Answer.the-variants as answer
@@ -64,8 +65,8 @@ module _ {t memory : List ℕ} {row : ℕ} (g : Commanded t memory row) where
 pub record Entered (t memory : List ℕ) (row w o : ℕ) : Type 0 where
   pub asked : Commanded t memory row
   pub word : w ≡ getD t (1024 + row) 0
-  pub op : w % 256 ≡ o
+  pub op : opIn w ≡ o
 
 pub record Storing (t memory : List ℕ) (row w a : ℕ) : Type 0 where
-  pub entered : Entered t memory row w 2
+  pub entered : Entered t memory row w opStore
   pub inside : Inside memory a

@@ -1,7 +1,10 @@
 // The rules for values, over the table's homes: conversions, accesses, operators, and the entries of memory.
 use rules::Value;
+use words::WORDS;
 use words::high;
 use words::low;
+use words::of_halves;
+use words::ops;
 use words::size_of;
 use words::start_of;
 ghost use mathlib.Core.Path.{_≡_};
@@ -43,7 +46,7 @@ pub fn encode(v: Value) -> u64
 {
     match v {
         Value::Number(n) => n as u64,
-        Value::Pair(g, n) => n as u64 + 4294967296 * (g as u64 + 1),
+        Value::Pair(g, n) => of_halves(n, g + 1),
     }
 }
 
@@ -59,7 +62,7 @@ pub fn number(v: Value) -> u32
     }
 }
 
-pub fn to_int(t: &[u64; 2304], v: Value) -> u32
+pub fn to_int(t: &[u64; WORDS], v: Value) -> u32
     requires { ⌜ Named v ⌝ }
     ensures { λ r. ⌜ r ≡ toIntIn (now (t .entry)) v ⌝ }
 {
@@ -78,7 +81,7 @@ pub fn to_pair(v: Value) -> Value
     }
 }
 
-pub fn to_safe(t: &[u64; 2304], v: Value) -> Found
+pub fn to_safe(t: &[u64; WORDS], v: Value) -> Found
     requires { ⌜ Named v ⌝ }
     ensures { λ r. ⌜ r ≡ foundOf (toSafeIn (now (t .entry)) v) ⌝ }
 {
@@ -120,7 +123,7 @@ pub fn reach_safe(v: Value) -> Found
     not_null(number(v))
 }
 
-pub fn reach_seq(t: &[u64; 2304], v: Value) -> Found
+pub fn reach_seq(t: &[u64; WORDS], v: Value) -> Found
     requires { ⌜ Named v ⌝ }
     ensures { λ r. ⌜ r ≡ foundOf (reachSeqIn (now (t .entry)) v) ⌝ }
 {
@@ -131,7 +134,7 @@ pub fn reach_seq(t: &[u64; 2304], v: Value) -> Found
     }
 }
 
-pub fn reach_dynamic(t: &[u64; 2304], v: Value) -> Found
+pub fn reach_dynamic(t: &[u64; WORDS], v: Value) -> Found
     requires { ⌜ Named v ⌝ }
     ensures { λ r. ⌜ r ≡ foundOf (reachDynamicIn (now (t .entry)) v) ⌝ }
 {
@@ -149,13 +152,13 @@ pub fn reach_dynamic(t: &[u64; 2304], v: Value) -> Found
     }
 }
 
-pub fn reach(t: &[u64; 2304], access: u32, v: Value) -> Found
+pub fn reach(t: &[u64; WORDS], access: u32, v: Value) -> Found
     requires { ⌜ Named v ⌝ }
     ensures { λ r. ⌜ r ≡ foundOf (reachIn (now (t .entry)) access v) ⌝ }
 {
     match access {
-        0 => reach_safe(v),
-        1 => reach_seq(t, v),
+        ops::BY_SAFE => reach_safe(v),
+        ops::BY_SEQ => reach_seq(t, v),
         _ => reach_dynamic(t, v),
     }
 }
@@ -172,14 +175,14 @@ fn safe_entry(x: Found) -> Entry
     }
 }
 
-pub fn kept(t: &[u64; 2304], how: u32, v: Value) -> Entry
+pub fn kept(t: &[u64; WORDS], how: u32, v: Value) -> Entry
     requires { ⌜ Named v ⌝ }
     ensures { λ r. ⌜ r ≡ entryOf (keptIn (now (t .entry)) how v) ⌝ }
 {
     match how {
-        0 => Entry::Is(to_int(t, v) as u64),
-        1 => Entry::Is(encode(to_pair(v))),
-        2 => safe_entry(to_safe(t, v)),
+        ops::KEEP_INT => Entry::Is(to_int(t, v) as u64),
+        ops::KEEP_PAIR => Entry::Is(encode(to_pair(v))),
+        ops::KEEP_SAFE => safe_entry(to_safe(t, v)),
         _ => Entry::Is(encode(Value::Pair(0, to_int(t, v)))),
     }
 }
