@@ -3,16 +3,17 @@ use mathlib.Core.Path.{_≡_, refl, sym, ap, _∙_}
 use Prim.Native.Nat.{ℕ, zero, suc, _+_, _-_, _<_, _≤_}
 use native.Mathlib.Omega.{arith}
 use mathlib.Core.List.{List}
+use lib.ListN.{length, length-append}
 use Rattle.rules.specs.declared.Starts.{Starts}
 use Rattle.rules.specs.declared.Report.{Report}
 use Rattle.rules.specs.declared.RunAnswer.the-variants as runs
 use Rattle.rules.specs.Basic.{half}
 use Rattle.rules.specs.Steps.{units}
 use Rattle.rules.specs.Table.{Home, Routine, routine}
-use Rattle.rules.specs.Run.{start, exec, run}
-use Rattle.rules.specs.Calls.{endingOf, stateOf, Left, Ended, outcomeSays, runSays, reported}
+use Rattle.rules.specs.Run.{cleared, given, start, exec, run}
+use Rattle.rules.specs.Calls.{cellCount, endingOf, stateOf, Left, Ended, outcomeSays, runSays, reported}
 use Rattle.laws.specs.Promises.{Ends, atStop, leftAfter}
-use Rattle.laws.specs.Start.{start-ok}
+use Rattle.laws.specs.Start.{length-start, start-ok}
 use Rattle.laws.specs.Sound.{exec-ok}
 use Rattle.laws.specs.Units.{exec-spends}
 use Rattle.words.specs.Words.{RowWords, HomeWords}
@@ -80,6 +81,14 @@ module _ (s : List ℕ) (at : Starts) (hs : List Home) (memory : List ℕ) where
   reports (Fuel i) fuel y h = y
   reports (Check n i f) fuel y h = (rw (failing-place n (placeAt at i) f) at y, h)
 
+-- ---- the starting memory
+
+pub cleared-room : (r : Routine) (m lent l : List ℕ) → l ≡ cleared r m lent → cellCount r ≤ length l
+cleared-room r m lent l e = rw (e, length-append, length-start r m) (omega arith)
+
+pub started : (r : Routine) (m lent l k : List ℕ) → l ≡ cleared r m lent → k ≡ given r m (r .values) l → k ≡ start r m lent .memory
+started r m lent l k e f = f ∙ ap (λ z. given r m (r .values) z) e
+
 -- ---- the whole
 
 module _ {s m ty t : List ℕ} {at : Starts} (y : Accepted s at m ty) (d : CommandsDone s at m (half s (at .commands)) t) where
@@ -92,12 +101,12 @@ module _ {s m ty t : List ℕ} {at : Starts} (y : Accepted s at m ty) (d : Comma
         accepted = fit y;
         fewExprs = known y .exprs .few;
         fewCommands = known y .commands .few;
-        exprs = d .before .words;
-        commands = d .words;
+        exprs = d .exprs;
+        commands = d .commands;
       }
 
   abbrev homes : HomeWords (routine s at) t
-  homes = record { list = routine s at .homes; words = d .before .before .homes; declared = λ g h. refl }
+  homes = record { list = routine s at .homes; words = d .homes; declared = λ g h. refl }
 
   some : 1 ≤ half s (at .commands)
   some = known y .commands .least

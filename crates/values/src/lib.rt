@@ -52,7 +52,7 @@ pub fn encode(v: Value) -> u64
 
 // ---- conversions
 
-// The number of an int or SAFE value. A run meets no pair here; both arms read the same word.
+// The number of an int or SAFE value. No rule covers a pair; its arm reads the same word as the other.
 pub fn number(v: Value) -> u32
     ensures { λ r. ⌜ r ≡ numberOf v ⌝ }
 {
@@ -96,7 +96,7 @@ pub fn to_safe(t: &[u64; WORDS], v: Value) -> Found
     }
 }
 
-// The pointer v plus n.
+// The pointer v plus n. A pointer that is added to is a pair: no rule covers a number, which stays as it is.
 pub fn plus(v: Value, n: u32) -> Value
     ensures { λ r. ⌜ r ≡ plusOf v n ⌝ }
 {
@@ -134,6 +134,7 @@ pub fn reach_seq(t: &[u64; WORDS], v: Value) -> Found
     }
 }
 
+// A DYNAMIC pointer is a pair: no rule covers a number, which fails as a pair of home 0 does.
 pub fn reach_dynamic(t: &[u64; WORDS], v: Value) -> Found
     requires { ⌜ Named v ⌝ }
     ensures { λ r. ⌜ r ≡ foundOf (reachDynamicIn (now (t .entry)) v) ⌝ }
@@ -152,6 +153,7 @@ pub fn reach_dynamic(t: &[u64; WORDS], v: Value) -> Found
     }
 }
 
+// By the access. No rule covers one past DYNAMIC's, which goes as DYNAMIC.
 pub fn reach(t: &[u64; WORDS], access: u32, v: Value) -> Found
     requires { ⌜ Named v ⌝ }
     ensures { λ r. ⌜ r ≡ foundOf (reachIn (now (t .entry)) access v) ⌝ }
@@ -175,6 +177,7 @@ fn safe_entry(x: Found) -> Entry
     }
 }
 
+// By how it is kept. No rule covers a number past the last, which goes as the last.
 pub fn kept(t: &[u64; WORDS], how: u32, v: Value) -> Entry
     requires { ⌜ Named v ⌝ }
     ensures { λ r. ⌜ r ≡ entryOf (keptIn (now (t .entry)) how v) ⌝ }
@@ -228,7 +231,7 @@ fn right(m: u32, n: u32) -> Found
     Found::Is(0)
 }
 
-// Operator k, from 0 on, of m and n.
+// Operator k, from 0 on, of m and n. No rule covers one past the last, which goes as the last.
 pub fn applied(k: u64, m: u32, n: u32) -> Found
     ensures { λ r. ⌜ r ≡ foundOf (applied (operatorOf k) m n) ⌝ }
 {

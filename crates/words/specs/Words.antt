@@ -42,9 +42,14 @@ lowIn w = w % 4294967296
 abbrev pub highIn : ℕ → ℕ
 highIn w = w / 4294967296
 
+-- Bits 24 to 31 of an expression.
+abbrev pub gapIn : ℕ → ℕ
+gapIn w = w / 16777216 % 256
+
 pub record Packed (w o a b : ℕ) : Type 0 where
   pub op : opIn w ≡ o
   pub first : aIn w ≡ a
+  pub gap : gapIn w ≡ 0
   pub second : highIn w ≡ b
 
 pub record PackedCommand (w o a b c d : ℕ) : Type 0 where
