@@ -113,8 +113,8 @@ fn converts(targets: &[u8; 256], marking: &[u8], from: u8, to: u8) -> bool
 {
     let i = from as usize;
     let j = to as usize;
-    let a = kind_of(marking, i);
-    let b = kind_of(marking, j);
+    let a = kind_of(marking, from as u16);
+    let b = kind_of(marking, to as u16);
     if !kinds_convert(a, b) {
         return false;
     }
@@ -143,7 +143,7 @@ fn met(targets: &[u8; 256], marking: &[u8], need: Need) -> bool
 {
     match need {
         Need::Nothing => true,
-        Need::Moving(t) => not_safe(kind_of(marking, t as usize)),
+        Need::Moving(t) => not_safe(kind_of(marking, t as u16)),
         Need::Converting(s, t) => converts(targets, marking, s, t),
     }
 }
@@ -184,8 +184,8 @@ fn type_ok(targets: &[u8; 256], marking: &[u8], t: usize) -> bool
     requires { ⌜ OneType (now targets) (now marking) t ⌝ }
     ensures { λ x. ⌜ ((g : OneType (now (targets .entry)) (now (marking .entry)) t) → x ≡ typeKind (g .routine) (now (marking .entry)) t) ⌝ }
 {
-    let target = targets[t] as usize;
-    spreads(kind_of(marking, t), kind_of(marking, target))
+    let target = targets[t] as u16;
+    spreads(kind_of(marking, t as u16), kind_of(marking, target))
 }
 
 // The index from 0 of the first type row that breaks its rule, or their number.

@@ -182,7 +182,7 @@ module _ (hs : List Home) (memory : List ℕ) where
 
 module _ {r : Routine} {m t : List ℕ} {hs : List Home} {memory : List ℕ} (sizes : Homes hs t) (ok : ValidState r m (record { homes = hs; memory = memory })) where
   -- An offset inside a home other than home 0 has an address other than 0.
-  not-zero : (g n : ℕ) → n < sizeIn t (suc g) → suc g < 65 → (startIn t (suc g) + n) % width ≡ 0 → ⊥
+  not-zero : (g n : ℕ) → n < sizeIn t (suc g) → suc g < 256 → (startIn t (suc g) + n) % width ≡ 0 → ⊥
   not-zero g n l s z =
       let b : n < homeAt hs (suc g) .size = rw (sizes .size (suc g) s) at l in
       let real : Real hs (suc g) = record { positive = omega arith; exists = omega arith } in

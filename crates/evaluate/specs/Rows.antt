@@ -1,6 +1,6 @@
 -- What the evaluation of a row from its word is held to.
 use mathlib.Core.Path.{_≡_}
-use Prim.Native.Nat.{ℕ, zero, suc, _+_, _-_, _≤_, _<_, _%_}
+use Prim.Native.Nat.{ℕ, zero, suc, _+_, _-_, _≤_, _<_}
 use mathlib.Core.List.{List, [], _∷_}
 use lib.ListN.{getD, length}
 use lib.Dec.{ltb}
@@ -13,7 +13,8 @@ use Rattle.rules.specs.Ruled.{checkNumber, Ruled, gives, fails, stuck, onward, 
 use Rattle.rules.specs.Operators.{applied}
 use Rattle.rules.specs.Run.{Stop as Stops, noFuel, failed, noRule, Answer as Answers, got, stopped, exprRow, eval}
 use Rattle.rules.specs.Valid.{ValidState}
-use Rattle.words.specs.Words.{Named, Tabled, state}
+use Rattle.words.specs.Ops.{opToInt, opReadSafe, opSum, opOperators}
+use Rattle.words.specs.Words.{opIn, Named, RowWords, HomeWords, state}
 use Rattle.values.specs.declared.Found.{Found}
 use Rattle.values.specs.declared.Found.the-variants.{Is, Fails}
 use Rattle.values.specs.Values.{numberOf, plusOf, toIntIn, toPair, toSafeIn, reachIn, asNumber}
@@ -40,29 +41,30 @@ abbrev pub told : Routine → Answer → Answers
 told r (Done x) = got (x .value) (x .left)
 told r (Stopped s) = stopped (stopTold r s)
 
--- ---- a row of a table's routine, in a valid memory
+-- ---- a row of a table's routine, in a memory that is valid for the table's homes
 
 pub record Asked (t memory : List ℕ) (row : ℕ) : Type 0 where
-  pub table : Tabled t
-  pub valid : ValidState (table .routine) (table .marking) (state table memory)
-  pub inside : row < table .routine .exprs
+  pub rows : RowWords t
+  pub homes : HomeWords (rows .routine) t
+  pub valid : ValidState (rows .routine) (rows .marking) (state homes memory)
+  pub inside : row < rows .routine .exprs
 
 module _ {t memory : List ℕ} {row : ℕ} (g : Asked t memory row) where
   -- What the rules say of the row, and of the row once it has been entered.
   abbrev pub meant : ℕ → Answers
-  meant f = eval (g .table .routine) (g .table .marking) (state (g .table) memory) row f .answer
+  meant f = eval (g .rows .routine) (g .rows .marking) (state (g .homes) memory) row f .answer
 
   abbrev pub entered : ℕ → Answers
   entered f =
-      exprRow (g .table .routine) (g .table .marking) (state (g .table) memory)
-      (λ a f₁. eval (g .table .routine) (g .table .marking) (state (g .table) memory) a f₁)
-      (g .table .routine .exprPlace row) (g .table .routine .expr row) f .answer
+      exprRow (g .rows .routine) (g .rows .marking) (state (g .homes) memory)
+      (λ a f₁. eval (g .rows .routine) (g .rows .marking) (state (g .homes) memory) a f₁)
+      (g .rows .routine .exprPlace row) (g .rows .routine .expr row) f .answer
 
 -- Its word, of an operation that has operands.
 pub record Operands (t memory : List ℕ) (row w : ℕ) : Type 0 where
   pub asked : Asked t memory row
   pub word : w ≡ getD t row 0
-  pub some : 2 ≤ w % 256
+  pub some : opToInt ≤ opIn w
 
 -- ---- what the code makes of operands
 
@@ -109,7 +111,7 @@ oneIn t memory o v =
     ) o stuck
 
 unfoldable pub twoIn : ℕ → Value → Value → Ruled Value
-twoIn o v n = getD (gives (plusOf v (numberOf n)) ∷ []) (o - 9) (asNumber (applied (operatorOf (o - 10)) (numberOf v) (numberOf n)))
+twoIn o v n = getD (gives (plusOf v (numberOf n)) ∷ []) (o - opSum) (asNumber (applied (operatorOf (o - opOperators)) (numberOf v) (numberOf n)))
 
 -- An address in the memory, whose cell names one of the table's homes.
 pub record Inside (memory : List ℕ) (a : ℕ) : Type 0 where
@@ -119,7 +121,7 @@ pub record Inside (memory : List ℕ) (a : ℕ) : Type 0 where
 
 -- What an operation on one operand needs.
 pub record Ready (t memory : List ℕ) (o : ℕ) (v : Value) : Type 0 where
-  pub from : 2 ≤ o
-  pub to : o < 9
+  pub from : opToInt ≤ o
+  pub to : o < opSum
   pub named : Named v
-  pub inside : (k a : ℕ) → o ≡ 5 + k → reachIn t k v ≡ gives a → Inside memory a
+  pub inside : (k a : ℕ) → o ≡ opReadSafe + k → reachIn t k v ≡ gives a → Inside memory a

@@ -1,12 +1,15 @@
 // Expression rows, run from the table.
 use rules::Value;
 use values::Found;
+use words::WORDS;
 use words::a_of;
 use words::high;
 use words::op_of;
+use words::ops;
 ghost use mathlib.Core.Path.{_≡_};
-ghost use Prim.Native.Nat.{ℕ, _/_, _%_, _≤_, _<_};
-ghost use Rattle.words.specs.Words.{Named};
+ghost use Prim.Native.Nat.{ℕ, _≤_};
+ghost use Rattle.words.specs.Ops.{opSum};
+ghost use Rattle.words.specs.Words.{opIn, highIn};
 ghost use Rattle.evaluate.specs.Rows.{Asked, Operands, Inside, Ready, told, meant, entered, leafValue, says, numberIn, loadIn, loadIntIn, oneIn, twoIn};
 
 // A value, beside the fuel left.
@@ -40,9 +43,9 @@ fn check(k: u32, row: u32, left: u32) -> Answer
 
 // A literal, a home or a null.
 fn leaf(w: u64, left: u32) -> Answer
-    ensures { λ r. ⌜ r ≡ Answer.Done (record { left = left; value = leafValue (w % 256) (w / 4294967296) }) ⌝ }
+    ensures { λ r. ⌜ r ≡ Answer.Done (record { left = left; value = leafValue (opIn w) (highIn w) }) ⌝ }
 {
-    if op_of(w) == 0 {
+    if op_of(w) == ops::NUMBER {
         return done(Value::Number(high(w)), left);
     }
     done(Value::Pair(high(w), 0), left)
@@ -70,7 +73,7 @@ fn load(memory: &[u64], row: u32, x: Found, left: u32) -> Answer
 }
 
 // A cell of a DYNAMIC home, read as an int.
-fn load_int(t: &[u64; 2113], memory: &[u64], row: u32, x: Found, left: u32) -> Answer
+fn load_int(t: &[u64; WORDS], memory: &[u64], row: u32, x: Found, left: u32) -> Answer
     requires { ⌜ ((a : ℕ) → x ≡ Found.Is a → Inside (now memory) a) ⌝ }
     ensures { λ r. ⌜ r ≡ loadIntIn (now (t .entry)) (now (memory .entry)) row left x ⌝ }
 {
@@ -83,19 +86,19 @@ fn load_int(t: &[u64; 2113], memory: &[u64], row: u32, x: Found, left: u32) -> A
     }
 }
 
-fn one(t: &[u64; 2113], memory: &[u64], op: u64, row: u32, x: Got) -> Answer
+fn one(t: &[u64; WORDS], memory: &[u64], op: u64, row: u32, x: Got) -> Answer
     requires { ⌜ Ready (now t) (now memory) op (x .value) ⌝ }
     ensures { λ r. ⌜ r ≡ says row (x .left) (oneIn (now (t .entry)) (now (memory .entry)) op (x .value)) ⌝ }
 {
     let v = x.value;
     let left = x.left;
     match op {
-        2 => done(Value::Number(values::to_int(t, v)), left),
-        3 => done(values::to_pair(v), left),
-        4 => number(row, values::to_safe(t, v), left),
-        5 => load(memory, row, values::reach_safe(v), left),
-        6 => load(memory, row, values::reach_seq(t, v), left),
-        7 => load(memory, row, values::reach_dynamic(t, v), left),
+        ops::TO_INT => done(Value::Number(values::to_int(t, v)), left),
+        ops::TO_PAIR => done(values::to_pair(v), left),
+        ops::TO_SAFE => number(row, values::to_safe(t, v), left),
+        ops::READ_SAFE => load(memory, row, values::reach_safe(v), left),
+        ops::READ_SEQ => load(memory, row, values::reach_seq(t, v), left),
+        ops::READ_DYNAMIC => load(memory, row, values::reach_dynamic(t, v), left),
         _ => load_int(t, memory, row, values::reach_dynamic(t, v), left),
     }
 }
@@ -103,16 +106,20 @@ fn one(t: &[u64; 2113], memory: &[u64], op: u64, row: u32, x: Got) -> Answer
 // ---- two operands
 
 fn two(op: u64, row: u32, v: Value, y: Got) -> Answer
-    requires { ⌜ 9 ≤ op ⌝ }
+    requires { ⌜ opSum ≤ op ⌝ }
     ensures { λ r. ⌜ r ≡ says row (y .left) (twoIn op v (y .value)) ⌝ }
 {
     let k = y.value;
     let left = y.left;
     let n = values::number(k);
-    if op == 9 {
+    if op == ops::SUM {
         return done(values::plus(v, n), left);
     }
-    number(row, values::applied(op - 10, values::number(v), n), left)
+    number(
+        row,
+        values::applied(op - ops::OPERATORS, values::number(v), n),
+        left,
+    )
 }
 
 // ---- rows
@@ -137,16 +144,16 @@ fn on(x: Answer) -> Answer
 }
 
 // A row of the word w that has been entered and has operands: the operands left to right, then the row's rule.
-fn compound(t: &[u64; 2113], memory: &[u64], row: u32, w: u64, left: u32) -> Answer
+fn compound(t: &[u64; WORDS], memory: &[u64], row: u32, w: u64, left: u32) -> Answer
     requires { ⌜ Operands (now t) (now memory) row w ⌝ }
-    ensures { λ x. ⌜ ((g : Asked (now (t .entry)) (now (memory .entry)) row) → told (g .table .routine) x ≡ entered g left) ⌝ }
+    ensures { λ x. ⌜ ((g : Asked (now (t .entry)) (now (memory .entry)) row) → told (g .rows .routine) x ≡ entered g left) ⌝ }
 {
     let op = op_of(w);
     let first = operand(t, memory, a_of(w), left);
     let Answer::Done(x) = first else {
         return on(first);
     };
-    if op < 9 {
+    if op < ops::SUM {
         return one(t, memory, op, row, x);
     }
     let v = x.value;
@@ -158,16 +165,16 @@ fn compound(t: &[u64; 2113], memory: &[u64], row: u32, w: u64, left: u32) -> Ans
 }
 
 // An operand. A leaf is answered where it is asked for: that keeps it in registers.
-fn operand(t: &[u64; 2113], memory: &[u64], row: u32, fuel: u32) -> Answer
+fn operand(t: &[u64; WORDS], memory: &[u64], row: u32, fuel: u32) -> Answer
     requires { ⌜ Asked (now t) (now memory) row ⌝ }
-    ensures { λ x. ⌜ ((g : Asked (now (t .entry)) (now (memory .entry)) row) → told (g .table .routine) x ≡ meant g fuel) ⌝ }
+    ensures { λ x. ⌜ ((g : Asked (now (t .entry)) (now (memory .entry)) row) → told (g .rows .routine) x ≡ meant g fuel) ⌝ }
 {
     if fuel == 0 {
         return Answer::Stopped(Stop::Fuel(row));
     }
     let left = fuel - 1;
     let w = t[row as usize];
-    if op_of(w) < 2 {
+    if op_of(w) < ops::TO_INT {
         return leaf(w, left);
     }
     let x = compound(t, memory, row, w, left);
@@ -175,16 +182,16 @@ fn operand(t: &[u64; 2113], memory: &[u64], row: u32, fuel: u32) -> Answer
 }
 
 // The row's value with the fuel left, or what stopped it. The same for callers outside, so that `compound` has two and stays a function of its own.
-pub fn eval(t: &[u64; 2113], memory: &[u64], row: u32, fuel: u32) -> Answer
+pub fn eval(t: &[u64; WORDS], memory: &[u64], row: u32, fuel: u32) -> Answer
     requires { ⌜ Asked (now t) (now memory) row ⌝ }
-    ensures { λ x. ⌜ ((g : Asked (now (t .entry)) (now (memory .entry)) row) → told (g .table .routine) x ≡ meant g fuel) ⌝ }
+    ensures { λ x. ⌜ ((g : Asked (now (t .entry)) (now (memory .entry)) row) → told (g .rows .routine) x ≡ meant g fuel) ⌝ }
 {
     if fuel == 0 {
         return Answer::Stopped(Stop::Fuel(row));
     }
     let left = fuel - 1;
     let w = t[row as usize];
-    if op_of(w) < 2 {
+    if op_of(w) < ops::TO_INT {
         return leaf(w, left);
     }
     let x = compound(t, memory, row, w, left);

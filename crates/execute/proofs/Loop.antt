@@ -1,6 +1,6 @@
 -- The turns of a while: an answer that is right from a turn on is right from the start.
 use mathlib.Core.Path.{_≡_, refl, sym, ap, _∙_}
-use Prim.Native.Nat.{ℕ, zero, suc, _+_, _-_, _/_, _%_, _<_, _≤_}
+use Prim.Native.Nat.{ℕ, zero, suc, _+_, _-_, _<_, _≤_}
 use native.Mathlib.Numerals.{sub-one}
 use native.Mathlib.Omega.{arith}
 use mathlib.Core.List.{List, [], _∷_}
@@ -16,7 +16,8 @@ use Rattle.rules.specs.Valid.{ValidState}
 use Rattle.rules.specs.Ends.{leftAfter}
 use Rattle.laws.specs.Forget.{value, rule, entry, ended, turn-answer}
 use Rattle.laws.specs.Units.{leftOf, eval-spends, exec-spends}
-use Rattle.words.specs.Words.{firstFor, secondFor, state}
+use Rattle.words.specs.Ops.{opWhile}
+use Rattle.words.specs.Words.{aIn, bIn, firstFor, secondFor, state}
 use Rattle.values.specs.Values.{numberOf}
 use Rattle.evaluate.proofs.Answer as answer
 use Rattle.evaluate.proofs.Rules.{Fine}
@@ -33,13 +34,13 @@ use Rattle.execute.specs.Commands.{ranTold, stoppedOf, Commanded, entere
 
 module _ {t start : List ℕ} {row : ℕ} (g : Commanded t start row) where
   abbrev R : Routine
-  R = g .table .routine
+  R = g .rows .routine
 
   abbrev M : List ℕ
-  M = g .table .marking
+  M = g .rows .marking
 
   abbrev H : List Home
-  H = g .table .homes
+  H = g .homes .list
 
   abbrev X : Command
   X = R .command row
@@ -48,7 +49,7 @@ module _ {t start : List ℕ} {row : ℕ} (g : Commanded t start row) where
   P = R .commandPlace row
 
   abbrev at : List ℕ → State
-  at l = state (g .table) l
+  at l = state (g .homes) l
 
   -- The turns from memory l on, with fuel f; n bounds their number.
   abbrev pub from : ℕ → List ℕ → ℕ → Runs
@@ -63,19 +64,19 @@ module _ {t start : List ℕ} {row : ℕ} (g : Commanded t start row) where
     pub bound : ℕ
     pub more : left < bound
     pub same : from (suc fuel) start fuel ≡ from bound l left
-    pub valid : ValidState (g .table .routine) (g .table .marking) (state (g .table) l)
+    pub valid : ValidState (g .rows .routine) (g .rows .marking) (state (g .homes) l)
 
   pub turned-start : (fuel : ℕ) → Turned fuel start fuel
   turned-start fuel = record { bound = suc fuel; more = omega arith; same = refl; valid = g .valid }
 
-  module _ {w : ℕ} (y : Entered t start row w 4) (fuel : ℕ) where
+  module _ {w : ℕ} (y : Entered t start row w opWhile) (fuel : ℕ) where
     whole : enteredRun g fuel ≡ from (suc fuel) start fuel
     whole = while-row R M (λ w a f₁. exec R M w a f₁) P (at start) fuel X (is-op g y)
 
     pub names : (firstFor X < R .exprs) × (secondFor X < row)
-    names = while-early R M row X (g .table .formed .commands row (g .inside) .0) (is-op g y)
+    names = while-early R M row X (g .rows .formed .commands row (g .inside) .0) (is-op g y)
 
-    module _ (l : List ℕ) (left : ℕ) (turned : Turned fuel l left) (a : ℕ) (i : a ≡ w / 256 % 65536) where
+    module _ (l : List ℕ) (left : ℕ) (turned : Turned fuel l left) (a : ℕ) (i : a ≡ aIn w) where
       abbrev pub test-asked : Asked t l a
       test-asked = expression g l (turned .valid) a (rw (← is-first g y a i) (names .0))
 
@@ -95,7 +96,7 @@ module _ {t start : List ℕ} {row : ℕ} (g : Commanded t start row) where
           ∙ ap (λ k. value (halted (at l)) (eval R M (at l) k left .answer) (λ v f₁. Next (turned .bound - 1) v f₁)) (is-first g y a i)
 
       module _ (x : Answer) (right : Valued t l a left x) where
-        pub loop-stops : (r : Ran) → tagOf answer.the-type x ≡ 1 → r ≡ stoppedOf x → ranTold (g .table .routine) (g .table .homes) r l ≡ enteredRun g fuel
+        pub loop-stops : (r : Ran) → tagOf answer.the-type x ≡ 1 → r ≡ stoppedOf x → ranTold (g .rows .routine) (g .homes .list) r l ≡ enteredRun g fuel
         loop-stops r tag q =
             ap (λ s. ranTold R H s l) q ∙ stop-told R H l x (λ v f₁. Next (turned .bound - 1) v f₁) tag ∙ rw (right test-asked, at-test)
 
@@ -109,10 +110,10 @@ module _ {t start : List ℕ} {row : ℕ} (g : Commanded t start row) where
           test-fine : Fine (truth (v .value))
           test-fine = rule-fine (at l) P (v .left) (truth (v .value)) _ (rw past-test at (sound g fuel))
 
-          pub loop-ends : n ≡ 0 → ranTold (g .table .routine) (g .table .homes) (Done (v .left)) l ≡ enteredRun g fuel
+          pub loop-ends : n ≡ 0 → ranTold (g .rows .routine) (g .homes .list) (Done (v .left)) l ≡ enteredRun g fuel
           loop-ends z = rw (past-test, truth-false (v .value) test-fine (sym j ∙ z))
 
-          module _ (z : n ≡ 0 → ⊥) (b : ℕ) (k : b ≡ w / 16777216 % 65536) where
+          module _ (z : n ≡ 0 → ⊥) (b : ℕ) (k : b ≡ bIn w) where
             pub body-before : b < row
             body-before = rw (← is-second g y b k) (names .1)
 
@@ -123,7 +124,7 @@ module _ {t start : List ℕ} {row : ℕ} (g : Commanded t start row) where
             at-body = past-test ∙ rw (truth-true (v .value) test-fine (λ q. z (j ∙ q)), is-second g y b k)
 
             module _ (u : Ran) (l₂ : List ℕ) (right₂ : Carried t l b (v .left) u l₂) where
-              pub loop-breaks : (r : Ran) → OneOf (1 ∷ 2 ∷ []) (tagOf ran.the-type u) → r ≡ u → ranTold (g .table .routine) (g .table .homes) r l₂ ≡ enteredRun g fuel
+              pub loop-breaks : (r : Ran) → OneOf (1 ∷ 2 ∷ []) (tagOf ran.the-type u) → r ≡ u → ranTold (g .rows .routine) (g .homes .list) r l₂ ≡ enteredRun g fuel
               loop-breaks r tag q = ap (λ s. ranTold R H s l₂) q ∙ ran-told R H l₂ u (λ w₂ f₂. Again (turned .bound - 1) w₂ f₂) tag ∙ rw (right₂ body-asked, at-body)
 
               module _ (f₂ : ℕ) (d₂ : u ≡ Done f₂) where
@@ -133,8 +134,8 @@ module _ {t start : List ℕ} {row : ℕ} (g : Commanded t start row) where
                 past-body : enteredRun g fuel ≡ entry (halted (at l₂)) P f₂ λ f₃. from (turned .bound - 1) l₂ f₃
                 past-body = at-body ∙ rw body-gave
 
-                pub loop-dry : f₂ ≡ 0 → ranTold (g .table .routine) (g .table .homes) (Fuel (1024 + row)) l₂ ≡ enteredRun g fuel
-                loop-dry q = rw (past-body, q, command-place (g .table .routine) row)
+                pub loop-dry : f₂ ≡ 0 → ranTold (g .rows .routine) (g .homes .list) (Fuel (1024 + row)) l₂ ≡ enteredRun g fuel
+                loop-dry q = rw (past-body, q, command-place (g .rows .routine) row)
 
                 -- Fuel falls.
                 falls : f₂ ≤ left

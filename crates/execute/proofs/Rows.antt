@@ -2,7 +2,7 @@
 use mathlib.Core.Path.{_≡_, refl, sym, ap, _∙_}
 use mathlib.Core.Logic.{inl, inr}
 use mathlib.Core.Bool.{Bool, true, false}
-use Prim.Native.Nat.{ℕ, zero, suc, _+_, _-_, _/_, _%_, _<_}
+use Prim.Native.Nat.{ℕ, zero, suc, _+_, _-_, _<_}
 use native.Mathlib.Numerals.{sub-one}
 use native.Mathlib.Omega.{arith}
 use mathlib.Core.List.{List, [], _∷_}
@@ -29,7 +29,8 @@ use Rattle.laws.specs.Depth.{exec-row}
 use Rattle.laws.specs.Formed.{CommandFits}
 use Rattle.laws.specs.Steps.{steps-valid}
 use Rattle.laws.specs.Sound.{eval-ok, exec-ok}
-use Rattle.words.specs.Words.{commandOp, firstFor, secondFor, accessOf, keepOf, thirdFor, fourthFor, CommandWord, Named, state}
+use Rattle.words.specs.Ops.{opThen, opStore, opIf, opWhile}
+use Rattle.words.specs.Words.{opIn, aIn, bIn, cIn, dIn, commandOp, firstFor, secondFor, accessOf, keepOf, thirdFor, fourthFor, CommandWord, Named, state}
 use Rattle.values.specs.declared.Found.{Found}
 use Rattle.values.specs.declared.Found.the-variants as found
 use Rattle.values.specs.declared.Entry.{Entry}
@@ -237,42 +238,42 @@ truth-true (Pair g n) y h = elim y [ ]
 -- ---- what follows a row
 
 -- A row that is asked for leaves a valid memory.
-pub valid-after : {t memory : List ℕ} {row : ℕ} (g : Commanded t memory row) (f : ℕ) (l : List ℕ) (f₁ : ℕ) → meantRun g f ≡ done (state (g .table) l) f₁
-    → ValidState (g .table .routine) (g .table .marking) (state (g .table) l)
+pub valid-after : {t memory : List ℕ} {row : ℕ} (g : Commanded t memory row) (f : ℕ) (l : List ℕ) (f₁ : ℕ) → meantRun g f ≡ done (state (g .homes) l) f₁
+    → ValidState (g .rows .routine) (g .rows .marking) (state (g .homes) l)
 valid-after g f l f₁ e =
-    rw (ap stateOf e) at (steps-valid (g .valid) (exec-ok (g .table .formed) (g .table .accepted) _ f (g .inside) (g .valid) .steps))
+    rw (ap stateOf e) at (steps-valid (g .valid) (exec-ok (g .rows .formed) (g .rows .accepted) _ f (g .inside) (g .valid) .steps))
 
 -- A row named by another, and an expression, in a memory that is valid for the same table.
-abbrev pub command : {t memory : List ℕ} {row : ℕ} (g : Commanded t memory row) (l : List ℕ) → ValidState (g .table .routine) (g .table .marking) (state (g .table) l)
+abbrev pub command : {t memory : List ℕ} {row : ℕ} (g : Commanded t memory row) (l : List ℕ) → ValidState (g .rows .routine) (g .rows .marking) (state (g .homes) l)
     → (a : ℕ) → a < row → Commanded t l a
-command g l ok a h = record { table = g .table; valid = ok; inside = omega (arith, g .inside, h) }
+command g l ok a h = record { rows = g .rows; homes = g .homes; valid = ok; inside = omega (arith, g .inside, h) }
 
-abbrev pub expression : {t memory : List ℕ} {row : ℕ} (g : Commanded t memory row) (l : List ℕ) → ValidState (g .table .routine) (g .table .marking) (state (g .table) l)
-    → (a : ℕ) → a < g .table .routine .exprs → Asked t l a
-expression g l ok a h = record { table = g .table; valid = ok; inside = h }
+abbrev pub expression : {t memory : List ℕ} {row : ℕ} (g : Commanded t memory row) (l : List ℕ) → ValidState (g .rows .routine) (g .rows .marking) (state (g .homes) l)
+    → (a : ℕ) → a < g .rows .routine .exprs → Asked t l a
+expression g l ok a h = record { rows = g .rows; homes = g .homes; valid = ok; inside = h }
 
 -- What the callees' contracts say of their answers.
 abbrev pub Valued : List ℕ → List ℕ → ℕ → ℕ → Answer → Type 0
-Valued t memory a f x = (k : Asked t memory a) → told (k .table .routine) x ≡ meant k f
+Valued t memory a f x = (k : Asked t memory a) → told (k .rows .routine) x ≡ meant k f
 
 abbrev pub Carried : List ℕ → List ℕ → ℕ → ℕ → Ran → List ℕ → Type 0
-Carried t memory a f x l = (k : Commanded t memory a) → ranTold (k .table .routine) (k .table .homes) x l ≡ meantRun k f
+Carried t memory a f x l = (k : Commanded t memory a) → ranTold (k .rows .routine) (k .homes .list) x l ≡ meantRun k f
 
 module _ {t memory : List ℕ} {row : ℕ} (g : Commanded t memory row) where
   abbrev R : Routine
-  R = g .table .routine
+  R = g .rows .routine
 
   abbrev M : List ℕ
-  M = g .table .marking
+  M = g .rows .marking
 
   abbrev H : List Home
-  H = g .table .homes
+  H = g .homes .list
 
   abbrev X : Command
   X = R .command row
 
   abbrev W : State
-  W = state (g .table) memory
+  W = state (g .homes) memory
 
   abbrev P : ℕ
   P = R .commandPlace row
@@ -281,21 +282,21 @@ module _ {t memory : List ℕ} {row : ℕ} (g : Commanded t memory row) where
   K = kind M (typeOf R (firstFor X))
 
   pub few : row < 1024
-  few = omega (arith, g .inside, g .table .fewCommands)
+  few = omega (arith, g .inside, g .rows .fewCommands)
 
   abbrev word : CommandWord R M X (getD t (1024 + row) 0)
-  word = g .table .commands row (g .inside)
+  word = g .rows .commands row (g .inside)
 
   abbrev fits : CommandFits R row X
-  fits = g .table .formed .commands row (g .inside) .0
+  fits = g .rows .formed .commands row (g .inside) .0
 
-  pub no-fuel : (f : ℕ) → f ≡ 0 → ranTold (g .table .routine) (g .table .homes) (Fuel (1024 + row)) memory ≡ meantRun g f
+  pub no-fuel : (f : ℕ) → f ≡ 0 → ranTold (g .rows .routine) (g .homes .list) (Fuel (1024 + row)) memory ≡ meantRun g f
   unfolding enter
-  no-fuel f h = rw (h, command-place (g .table .routine) row)
+  no-fuel f h = rw (h, command-place (g .rows .routine) row)
 
   -- The row is entered for one unit.
   once : (f : ℕ) → meantRun g (suc f) ≡ enteredRun g f
-  once f = ap (λ (x : Told Runs). x .answer) (exec-row (g .table .formed) M W row (suc f) (g .inside)) ∙ enter-answer (halted W) P (suc f) _
+  once f = ap (λ (x : Told Runs). x .answer) (exec-row (g .rows .formed) M W row (suc f) (g .inside)) ∙ enter-answer (halted W) P (suc f) _
 
   pub step : (f : ℕ) → (f ≡ 0 → ⊥) → meantRun g f ≡ enteredRun g (f - 1)
   step zero z = absurd (z refl)
@@ -303,23 +304,23 @@ module _ {t memory : List ℕ} {row : ℕ} (g : Commanded t memory row) where
 
   -- So the row's soundness, which holds of any fuel, speaks of the row once it has been entered.
   pub sound : (f : ℕ) → Ends (enteredRun g f)
-  sound f = rw (once f) at (exec-ok (g .table .formed) (g .table .accepted) row (suc f) (g .inside) (g .valid) .answer)
+  sound f = rw (once f) at (exec-ok (g .rows .formed) (g .rows .accepted) row (suc f) (g .inside) (g .valid) .answer)
 
   named-value : (a f : ℕ) (v : Value) (f₁ : ℕ) → a < R .exprs → eval R M W a f .answer ≡ got v f₁ → Named v
   named-value a f v f₁ l e =
-      valid-named (g .table .sizes) (value-of (rw e at (eval-ok (g .table .formed) (g .table .accepted) (g .valid) a f l .answer)))
+      valid-named (g .homes .words) (value-of (rw e at (eval-ok (g .rows .formed) (g .rows .accepted) (g .valid) a f l .answer)))
 
-  module _ (f w o : ℕ) (z : f ≡ 0 → ⊥) (h : o ≡ w % 256) (e : w ≡ getD t (1024 + row) 0) where
+  module _ (f w o : ℕ) (z : f ≡ 0 → ⊥) (h : o ≡ opIn w) (e : w ≡ getD t (1024 + row) 0) where
     pub has-word : (k : ℕ) → o ≡ k → Entered t memory row w k
     has-word k q = record { asked = g; word = e; op = sym h ∙ q }
 
     op-is : commandOp X ≡ o
     op-is = sym (h ∙ rw e (word .op))
 
-    pub has-while : (o ≡ 0 → ⊥) → (o ≡ 1 → ⊥) → (o ≡ 2 → ⊥) → (o ≡ 3 → ⊥) → Entered t memory row w 4
+    pub has-while : (o ≡ 0 → ⊥) → (o ≡ 1 → ⊥) → (o ≡ 2 → ⊥) → (o ≡ 3 → ⊥) → Entered t memory row w opWhile
     has-while a b c d = has-word 4 (sym op-is ∙ else-while X (λ q. a (sym op-is ∙ q)) (λ q. b (sym op-is ∙ q)) (λ q. c (sym op-is ∙ q)) (λ q. d (sym op-is ∙ q)))
 
-    pub a-skip : o ≡ 0 → ranTold (g .table .routine) (g .table .homes) (Done (f - 1)) memory ≡ meantRun g f
+    pub a-skip : o ≡ 0 → ranTold (g .rows .routine) (g .homes .list) (Done (f - 1)) memory ≡ meantRun g f
     a-skip q = sym (step f z ∙ skip-row R M (λ w a f₁. exec R M w a f₁) P W (f - 1) row X fits (op-is ∙ q))
 
     pub a-row : (x : Runs) → x ≡ enteredRun g (f - 1) → x ≡ meantRun g f
@@ -331,28 +332,28 @@ module _ {t memory : List ℕ} {row : ℕ} (g : Commanded t memory row) where
     pub is-op : commandOp X ≡ k
     is-op = sym (word .op) ∙ rw (← y .word) (y .op)
 
-    pub is-first : (a : ℕ) → a ≡ w / 256 % 65536 → firstFor X ≡ a
+    pub is-first : (a : ℕ) → a ≡ aIn w → firstFor X ≡ a
     is-first a i = sym (i ∙ rw (y .word) (word .first))
 
-    pub is-second : (b : ℕ) → b ≡ w / 16777216 % 65536 → secondFor X ≡ b
+    pub is-second : (b : ℕ) → b ≡ bIn w → secondFor X ≡ b
     is-second b i = sym (i ∙ rw (y .word) (word .second))
 
-    is-third : (c : ℕ) → c ≡ w / 1099511627776 % 65536 → thirdFor R M X ≡ c
+    is-third : (c : ℕ) → c ≡ cIn w → thirdFor R M X ≡ c
     is-third c i = sym (i ∙ rw (y .word) (word .third))
 
-    is-fourth : (d : ℕ) → d ≡ w / 72057594037927936 → fourthFor R M X ≡ d
+    is-fourth : (d : ℕ) → d ≡ dIn w → fourthFor R M X ≡ d
     is-fourth d i = sym (i ∙ rw (y .word) (word .fourth))
 
   -- ---- a store
 
-  module _ {w : ℕ} (y : Entered t memory row w 2) (f : ℕ) where
+  module _ {w : ℕ} (y : Entered t memory row w opStore) (f : ℕ) where
     store-equation : enteredRun g f ≡ value (halted W) (eval R M W (firstFor X) f .answer) λ v f₁. rule (halted W) P f₁ (reach W K v) λ c. storingRun g c f₁
     store-equation = store-row R M (λ w a f₁. exec R M w a f₁) P W f X (is-op y)
 
     pub store-names : (firstFor X < R .exprs) × (secondFor X < R .exprs)
     store-names = store-early R M row X fits (is-op y)
 
-    module _ (a : ℕ) (i : a ≡ w / 256 % 65536) where
+    module _ (a : ℕ) (i : a ≡ aIn w) where
       abbrev pub pointer-asked : Asked t memory a
       pointer-asked = expression g memory (g .valid) a (rw (← is-first y a i) (store-names .0))
 
@@ -360,7 +361,7 @@ module _ {t memory : List ℕ} {row : ℕ} (g : Commanded t memory row) where
       at-pointer = store-equation ∙ ap (λ b. value (halted W) (eval R M W b f .answer) λ v f₁. rule (halted W) P f₁ (reach W K v) λ c. storingRun g c f₁) (is-first y a i)
 
       module _ (x : Answer) (right : Valued t memory a f x) where
-        pub pointer-stops : (r : Ran) → tagOf answer.the-type x ≡ 1 → r ≡ stoppedOf x → ranTold (g .table .routine) (g .table .homes) r memory ≡ enteredRun g f
+        pub pointer-stops : (r : Ran) → tagOf answer.the-type x ≡ 1 → r ≡ stoppedOf x → ranTold (g .rows .routine) (g .homes .list) r memory ≡ enteredRun g f
         pointer-stops r tag q =
             ap (λ s. ranTold R H s memory) q ∙ stop-told R H memory x (λ v f₁. rule (halted W) P f₁ (reach W K v) λ c. storingRun g c f₁) tag
             ∙ rw (right pointer-asked, at-pointer)
@@ -375,14 +376,14 @@ module _ {t memory : List ℕ} {row : ℕ} (g : Commanded t memory row) where
           past-pointer : enteredRun g f ≡ rule (halted W) P (v .left) (reach W K (v .value)) λ c. storingRun g c (v .left)
           past-pointer = at-pointer ∙ rw pointer-gave
 
-          module _ (c : ℕ) (j : c ≡ w / 1099511627776 % 65536) (s : Found) (q : s ≡ foundOf (reachIn t c (v .value))) where
+          module _ (c : ℕ) (j : c ≡ cIn w) (s : Found) (q : s ≡ foundOf (reachIn t c (v .value))) where
             access-is : reach W K (v .value) ≡ reachIn t c (v .value)
             access-is =
-                reach-is (g .table .sizes) (g .valid) K (v .value) pointer-named
+                reach-is (g .homes .words) (g .valid) K (v .value) pointer-named
                 (rule-fine W P (v .left) (reach W K (v .value)) (λ c. storingRun g c (v .left)) (rw past-pointer at (sound f)))
                 ∙ ap (λ k. reachIn t k (v .value)) (sym (store-third R M row X (is-op y)) ∙ is-third y c j)
 
-            pub pointer-fails : (n : ℕ) → s ≡ found.Fails n → ranTold (g .table .routine) (g .table .homes) (Check n (1024 + row) (v .left)) memory ≡ enteredRun g f
+            pub pointer-fails : (n : ℕ) → s ≡ found.Fails n → ranTold (g .rows .routine) (g .homes .list) (Check n (1024 + row) (v .left)) memory ≡ enteredRun g f
             pointer-fails n h =
                 found-fails R H memory row (v .left) (reachIn t c (v .value)) s n (λ c. storingRun g c (v .left)) q h ∙ rw (past-pointer, access-is)
 
@@ -390,13 +391,13 @@ module _ {t memory : List ℕ} {row : ℕ} (g : Commanded t memory row) where
             reached n h = access-is ∙ found-gives (reachIn t c (v .value)) n (sym q ∙ h)
 
             pub put-ready : (n : ℕ) → s ≡ found.Is n → Storing t memory row w n
-            put-ready n h = record { entered = y; inside = reach-inside (g .table .sizes) (g .valid) K (v .value) n (reached n h) }
+            put-ready n h = record { entered = y; inside = reach-inside (g .homes .words) (g .valid) K (v .value) n (reached n h) }
 
             pub a-store : (n : ℕ) (r : Runs) → s ≡ found.Is n → r ≡ storingRun g n (v .left) → r ≡ enteredRun g f
             a-store n r h p = p ∙ rw (past-pointer, reached n h)
 
     -- The value of a store, past its pointer.
-    module _ (b : ℕ) (i : b ≡ w / 16777216 % 65536) where
+    module _ (b : ℕ) (i : b ≡ bIn w) where
       abbrev pub value-asked : Asked t memory b
       value-asked = expression g memory (g .valid) b (rw (← is-second y b i) (store-names .1))
 
@@ -407,7 +408,7 @@ module _ {t memory : List ℕ} {row : ℕ} (g : Commanded t memory row) where
       at-value c = ap (λ k. value (halted W) (eval R M W k f .answer) λ u f₁. rule (halted W) P f₁ (Keeps u) λ v. done (put W c v) f₁) (is-second y b i)
 
       module _ (c : ℕ) (x : Answer) (right : Valued t memory b f x) where
-        pub value-stops : (r : Ran) → tagOf answer.the-type x ≡ 1 → r ≡ stoppedOf x → ranTold (g .table .routine) (g .table .homes) r memory ≡ storingRun g c f
+        pub value-stops : (r : Ran) → tagOf answer.the-type x ≡ 1 → r ≡ stoppedOf x → ranTold (g .rows .routine) (g .homes .list) r memory ≡ storingRun g c f
         value-stops r tag q =
             ap (λ s. ranTold R H s memory) q ∙ stop-told R H memory x (λ u f₁. rule (halted W) P f₁ (Keeps u) λ v. done (put W c v) f₁) tag
             ∙ rw (right value-asked, at-value c)
@@ -422,22 +423,22 @@ module _ {t memory : List ℕ} {row : ℕ} (g : Commanded t memory row) where
           past-value : storingRun g c f ≡ rule (halted W) P (v .left) (Keeps (v .value)) λ u. done (put W c u) (v .left)
           past-value = at-value c ∙ rw value-gave
 
-          module _ (h : ℕ) (j : h ≡ w / 72057594037927936) (s : Entry) (q : s ≡ entryOf (keptIn t h (v .value))) where
+          module _ (h : ℕ) (j : h ≡ dIn w) (s : Entry) (q : s ≡ entryOf (keptIn t h (v .value))) where
             keep-is : Keeps (v .value) ≡ keptIn t h (v .value)
             keep-is =
-                kept-is (g .table .sizes) memory K (kind M (R .target (typeOf R (firstFor X)))) (v .value) value-named
+                kept-is (g .homes .words) memory K (kind M (R .target (typeOf R (firstFor X)))) (v .value) value-named
                 ∙ ap (λ k. keptIn t k (v .value)) (sym (store-fourth R M row X (is-op y)) ∙ is-fourth y h j)
 
-            pub value-fails : (n : ℕ) → s ≡ entry.Fails n → ranTold (g .table .routine) (g .table .homes) (Check n (1024 + row) (v .left)) memory ≡ storingRun g c f
+            pub value-fails : (n : ℕ) → s ≡ entry.Fails n → ranTold (g .rows .routine) (g .homes .list) (Check n (1024 + row) (v .left)) memory ≡ storingRun g c f
             value-fails n p =
                 entry-fails R H memory row (v .left) (keptIn t h (v .value)) s n (λ u. done (put W c u) (v .left)) q p ∙ rw (past-value, keep-is)
 
-            pub a-put : (n : ℕ) → s ≡ entry.Is n → ranTold (g .table .routine) (g .table .homes) (Done (v .left)) (set memory (c - 1) n) ≡ storingRun g c f
+            pub a-put : (n : ℕ) → s ≡ entry.Is n → ranTold (g .rows .routine) (g .homes .list) (Done (v .left)) (set memory (c - 1) n) ≡ storingRun g c f
             a-put n p = entry-kept R H memory P (v .left) c (keptIn t h (v .value)) s n q p ∙ rw (past-value, keep-is)
 
   -- ---- one command after another
 
-  module _ {w : ℕ} (y : Entered t memory row w 1) (f a : ℕ) (i : a ≡ w / 256 % 65536) where
+  module _ {w : ℕ} (y : Entered t memory row w opThen) (f a : ℕ) (i : a ≡ aIn w) where
     then-names : (firstFor X < row) × (secondFor X < row)
     then-names = then-early R M row X fits (is-op y)
 
@@ -453,12 +454,12 @@ module _ {t memory : List ℕ} {row : ℕ} (g : Commanded t memory row) where
         ∙ ap (λ k. ended (exec R M W k f .answer) λ w₁ f₁. exec R M w₁ (secondFor X) f₁ .answer) (is-first y a i)
 
     module _ (x : Ran) (l : List ℕ) (right : Carried t memory a f x l) where
-      pub first-stops : (r : Ran) → OneOf (1 ∷ 2 ∷ []) (tagOf ran.the-type x) → r ≡ x → ranTold (g .table .routine) (g .table .homes) r l ≡ enteredRun g f
+      pub first-stops : (r : Ran) → OneOf (1 ∷ 2 ∷ []) (tagOf ran.the-type x) → r ≡ x → ranTold (g .rows .routine) (g .homes .list) r l ≡ enteredRun g f
       first-stops r tag q =
           ap (λ s. ranTold R H s l) q ∙ ran-told R H l x (λ w₁ f₁. exec R M w₁ (secondFor X) f₁ .answer) tag ∙ rw (right first-asked, at-first)
 
-      module _ (f₁ : ℕ) (d : x ≡ Done f₁) (b : ℕ) (j : b ≡ w / 16777216 % 65536) where
-        pub first-gave : exec R M W a f .answer ≡ done (state (g .table) l) f₁
+      module _ (f₁ : ℕ) (d : x ≡ Done f₁) (b : ℕ) (j : b ≡ bIn w) where
+        pub first-gave : exec R M W a f .answer ≡ done (state (g .homes) l) f₁
         first-gave = sym (right first-asked) ∙ ap (λ s. ranTold R H s l) d
 
         pub second-before : b < row
@@ -467,12 +468,12 @@ module _ {t memory : List ℕ} {row : ℕ} (g : Commanded t memory row) where
         abbrev pub second-asked : Commanded t l b
         second-asked = command g l (valid-after first-asked f l f₁ first-gave) b second-before
 
-        pub a-then : (r : Ran) (l₂ : List ℕ) → Carried t l b f₁ r l₂ → ranTold (g .table .routine) (g .table .homes) r l₂ ≡ enteredRun g f
+        pub a-then : (r : Ran) (l₂ : List ℕ) → Carried t l b f₁ r l₂ → ranTold (g .rows .routine) (g .homes .list) r l₂ ≡ enteredRun g f
         a-then r l₂ p = p second-asked ∙ rw (at-first, first-gave, is-second y b j)
 
   -- ---- a condition
 
-  module _ {w : ℕ} (y : Entered t memory row w 3) (f a : ℕ) (i : a ≡ w / 256 % 65536) where
+  module _ {w : ℕ} (y : Entered t memory row w opIf) (f a : ℕ) (i : a ≡ aIn w) where
     pub if-names : (firstFor X < R .exprs) × (secondFor X < row) × (thirdFor R M X < row)
     if-names = if-early R M row X fits (is-op y)
 
@@ -488,7 +489,7 @@ module _ {t memory : List ℕ} {row : ℕ} (g : Commanded t memory row) where
         ∙ ap (λ k. value (halted W) (eval R M W k f .answer) λ v f₁. rule (halted W) P f₁ (truth v) λ t. Branch f₁ t) (is-first y a i)
 
     module _ (x : Answer) (right : Valued t memory a f x) where
-      pub test-stops : (r : Ran) → tagOf answer.the-type x ≡ 1 → r ≡ stoppedOf x → ranTold (g .table .routine) (g .table .homes) r memory ≡ enteredRun g f
+      pub test-stops : (r : Ran) → tagOf answer.the-type x ≡ 1 → r ≡ stoppedOf x → ranTold (g .rows .routine) (g .homes .list) r memory ≡ enteredRun g f
       test-stops r tag q =
           ap (λ s. ranTold R H s memory) q ∙ stop-told R H memory x (λ v f₁. rule (halted W) P f₁ (truth v) λ t. Branch f₁ t) tag
           ∙ rw (right test-asked, at-test)
@@ -500,20 +501,20 @@ module _ {t memory : List ℕ} {row : ℕ} (g : Commanded t memory row) where
         test-fine : Fine (truth (v .value))
         test-fine = rule-fine W P (v .left) (truth (v .value)) (λ t. Branch (v .left) t) (rw past-test at (sound f))
 
-        module _ (b : ℕ) (k : b ≡ w / 16777216 % 65536) where
+        module _ (b : ℕ) (k : b ≡ bIn w) where
           pub then-before : b < row
           then-before = rw (← is-second y b k) (if-names .1)
 
-          pub if-yes : (r : Ran) (l : List ℕ) → (n ≡ 0 → ⊥) → Carried t memory b (v .left) r l → ranTold (g .table .routine) (g .table .homes) r l ≡ enteredRun g f
+          pub if-yes : (r : Ran) (l : List ℕ) → (n ≡ 0 → ⊥) → Carried t memory b (v .left) r l → ranTold (g .rows .routine) (g .homes .list) r l ≡ enteredRun g f
           if-yes r l z p =
               p (command g memory (g .valid) b then-before)
               ∙ rw (past-test, truth-true (v .value) test-fine (λ q. z (j ∙ q)), is-second y b k)
 
-        module _ (c : ℕ) (k : c ≡ w / 1099511627776 % 65536) where
+        module _ (c : ℕ) (k : c ≡ cIn w) where
           pub else-before : c < row
           else-before = rw (← is-third y c k) (if-names .2)
 
-          pub if-no : (r : Ran) (l : List ℕ) → n ≡ 0 → Carried t memory c (v .left) r l → ranTold (g .table .routine) (g .table .homes) r l ≡ enteredRun g f
+          pub if-no : (r : Ran) (l : List ℕ) → n ≡ 0 → Carried t memory c (v .left) r l → ranTold (g .rows .routine) (g .homes .list) r l ≡ enteredRun g f
           if-no r l z p =
               p (command g memory (g .valid) c else-before)
               ∙ rw (past-test, truth-false (v .value) test-fine (sym j ∙ z), is-third y c k)

@@ -4,12 +4,16 @@ use evaluate::Stop;
 use evaluate::eval;
 use values::Entry;
 use values::Found;
+use words::COMMANDS;
+use words::WORDS;
 use words::a_of;
 use words::b_of;
 use words::c_of;
 use words::d_of;
 use words::op_of;
+use words::ops;
 ghost use mathlib.Core.Path.{_≡_};
+ghost use Rattle.words.specs.Ops.{opThen, opStore, opIf, opWhile};
 ghost use Rattle.execute.specs.Commands.{Commanded, Entered, Storing, ranTold, meantRun, enteredRun, storingRun, stoppedOf};
 
 // The fuel left; or no fuel for a row; or a check's number, its row and the fuel left. Rows are numbered as in the table.
@@ -46,9 +50,9 @@ fn on(x: Ran) -> Ran
 // ---- stores
 
 // The pointer's checks are made, and it reaches address a: the value, its conversion, then the store.
-fn put(t: &[u64; 2113], memory: &mut [u64], row: u32, w: u64, a: u32, left: u32) -> Ran
+fn put(t: &[u64; WORDS], memory: &mut [u64], row: u32, w: u64, a: u32, left: u32) -> Ran
     requires { ⌜ Storing (now t) (now memory) row w a ⌝ }
-    ensures { λ r. ⌜ ((g : Commanded (now (t .entry)) (now (memory .entry)) row) → ranTold (g .table .routine) (g .table .homes) r (now (memory .exit)) ≡ storingRun g a left) ⌝ }
+    ensures { λ r. ⌜ ((g : Commanded (now (t .entry)) (now (memory .entry)) row) → ranTold (g .rows .routine) (g .homes .list) r (now (memory .exit)) ≡ storingRun g a left) ⌝ }
 {
     let value = eval(t, memory, b_of(w), left);
     let Answer::Done(y) = value else {
@@ -68,9 +72,9 @@ fn put(t: &[u64; 2113], memory: &mut [u64], row: u32, w: u64, a: u32, left: u32)
     }
 }
 
-fn store(t: &[u64; 2113], memory: &mut [u64], row: u32, w: u64, left: u32) -> Ran
-    requires { ⌜ Entered (now t) (now memory) row w 2 ⌝ }
-    ensures { λ r. ⌜ ((g : Commanded (now (t .entry)) (now (memory .entry)) row) → ranTold (g .table .routine) (g .table .homes) r (now (memory .exit)) ≡ enteredRun g left) ⌝ }
+fn store(t: &[u64; WORDS], memory: &mut [u64], row: u32, w: u64, left: u32) -> Ran
+    requires { ⌜ Entered (now t) (now memory) row w opStore ⌝ }
+    ensures { λ r. ⌜ ((g : Commanded (now (t .entry)) (now (memory .entry)) row) → ranTold (g .rows .routine) (g .homes .list) r (now (memory .exit)) ≡ enteredRun g left) ⌝ }
 {
     let pointer = eval(t, memory, a_of(w), left);
     let Answer::Done(x) = pointer else {
@@ -91,9 +95,9 @@ fn store(t: &[u64; 2113], memory: &mut [u64], row: u32, w: u64, left: u32) -> Ra
 
 // ---- rows that hold commands
 
-fn then(t: &[u64; 2113], memory: &mut [u64], row: u32, w: u64, left: u32) -> Ran
-    requires { ⌜ Entered (now t) (now memory) row w 1 ⌝ }
-    ensures { λ r. ⌜ ((g : Commanded (now (t .entry)) (now (memory .entry)) row) → ranTold (g .table .routine) (g .table .homes) r (now (memory .exit)) ≡ enteredRun g left) ⌝ }
+fn then(t: &[u64; WORDS], memory: &mut [u64], row: u32, w: u64, left: u32) -> Ran
+    requires { ⌜ Entered (now t) (now memory) row w opThen ⌝ }
+    ensures { λ r. ⌜ ((g : Commanded (now (t .entry)) (now (memory .entry)) row) → ranTold (g .rows .routine) (g .homes .list) r (now (memory .exit)) ≡ enteredRun g left) ⌝ }
 {
     let first = exec(t, memory, a_of(w), left);
     let Ran::Done(rest) = first else {
@@ -102,9 +106,9 @@ fn then(t: &[u64; 2113], memory: &mut [u64], row: u32, w: u64, left: u32) -> Ran
     exec(t, memory, b_of(w), rest)
 }
 
-fn choose(t: &[u64; 2113], memory: &mut [u64], row: u32, w: u64, left: u32) -> Ran
-    requires { ⌜ Entered (now t) (now memory) row w 3 ⌝ }
-    ensures { λ r. ⌜ ((g : Commanded (now (t .entry)) (now (memory .entry)) row) → ranTold (g .table .routine) (g .table .homes) r (now (memory .exit)) ≡ enteredRun g left) ⌝ }
+fn choose(t: &[u64; WORDS], memory: &mut [u64], row: u32, w: u64, left: u32) -> Ran
+    requires { ⌜ Entered (now t) (now memory) row w opIf ⌝ }
+    ensures { λ r. ⌜ ((g : Commanded (now (t .entry)) (now (memory .entry)) row) → ranTold (g .rows .routine) (g .homes .list) r (now (memory .exit)) ≡ enteredRun g left) ⌝ }
 {
     let test = eval(t, memory, a_of(w), left);
     let Answer::Done(x) = test else {
@@ -119,9 +123,9 @@ fn choose(t: &[u64; 2113], memory: &mut [u64], row: u32, w: u64, left: u32) -> R
 }
 
 // The turns of a while whose row has been entered; it is entered again for each further test.
-fn repeat(t: &[u64; 2113], memory: &mut [u64], row: u32, w: u64, fuel: u32) -> Ran
-    requires { ⌜ Entered (now t) (now memory) row w 4 ⌝ }
-    ensures { λ r. ⌜ ((g : Commanded (now (t .entry)) (now (memory .entry)) row) → ranTold (g .table .routine) (g .table .homes) r (now (memory .exit)) ≡ enteredRun g fuel) ⌝ }
+fn repeat(t: &[u64; WORDS], memory: &mut [u64], row: u32, w: u64, fuel: u32) -> Ran
+    requires { ⌜ Entered (now t) (now memory) row w opWhile ⌝ }
+    ensures { λ r. ⌜ ((g : Commanded (now (t .entry)) (now (memory .entry)) row) → ranTold (g .rows .routine) (g .homes .list) r (now (memory .exit)) ≡ enteredRun g fuel) ⌝ }
 {
     let mut left = fuel;
     loop {
@@ -146,21 +150,21 @@ fn repeat(t: &[u64; 2113], memory: &mut [u64], row: u32, w: u64, fuel: u32) -> R
 }
 
 // The fuel left once the row is carried out, or what stopped it; and the memory as after the last store.
-pub fn exec(t: &[u64; 2113], memory: &mut [u64], row: u32, fuel: u32) -> Ran
+pub fn exec(t: &[u64; WORDS], memory: &mut [u64], row: u32, fuel: u32) -> Ran
     requires { ⌜ Commanded (now t) (now memory) row ⌝ }
-    ensures { λ r. ⌜ ((g : Commanded (now (t .entry)) (now (memory .entry)) row) → ranTold (g .table .routine) (g .table .homes) r (now (memory .exit)) ≡ meantRun g fuel) ⌝ }
+    ensures { λ r. ⌜ ((g : Commanded (now (t .entry)) (now (memory .entry)) row) → ranTold (g .rows .routine) (g .homes .list) r (now (memory .exit)) ≡ meantRun g fuel) ⌝ }
 {
     if fuel == 0 {
         return Ran::Fuel(1024 + row);
     }
     let left = fuel - 1;
-    let w = t[1024 + row as usize];
+    let w = t[COMMANDS + row as usize];
     let op = op_of(w);
     match op {
-        0 => Ran::Done(left),
-        1 => then(t, memory, row, w, left),
-        2 => store(t, memory, row, w, left),
-        3 => choose(t, memory, row, w, left),
+        ops::SKIP => Ran::Done(left),
+        ops::THEN => then(t, memory, row, w, left),
+        ops::STORE => store(t, memory, row, w, left),
+        ops::IF => choose(t, memory, row, w, left),
         _ => repeat(t, memory, row, w, left),
     }
 }

@@ -1,4 +1,3 @@
 -- The laws that the proofs cite.
-pub mod Numbers
 pub mod Words
 pub mod Table

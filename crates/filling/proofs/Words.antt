@@ -3,9 +3,10 @@ use mathlib.Core.Path.{_≡_, refl, ap, _∙_}
 use mathlib.Core.Bool.{true}
 use Prim.Native.Nat.{ℕ, zero, suc, _+_, _*_, _-_, _<_, _≤_}
 use native.Mathlib.Decide.{decLe}
+use native.Mathlib.Numerals.{sub-one}
 use native.Mathlib.Omega.{arith}
 use mathlib.Core.List.{List}
-use lib.ListN.{getD}
+use lib.ListN.{getD, length}
 use lib.Dec.{ltb}
 use borrow.Author.Tests.{ltb-true, leb-true}
 use Rattle.rules.specs.declared.Starts.{Starts}
@@ -15,11 +16,12 @@ use Rattle.rules.specs.Reading.{exprGood, commandGood}
 use Rattle.rules.specs.Shape.{homeAt, typeOf}
 use Rattle.rules.specs.declared.Kind.{Kind}
 use Rattle.rules.specs.declared.Kind.the-variants.{int, SAFE, SEQ, DYNAMIC}
-use Rattle.rules.specs.Kinds.{kind, Acceptable}
+use Rattle.rules.specs.Kinds.{kindOf, kind, Acceptable}
 use Rattle.rules.specs.Tests.{parts-true, in-range, false-true}
 use Rattle.laws.specs.Formed.{Formed, type-le}
 use Rattle.laws.specs.Read.{judged-fine, formed-fine}
-use Rattle.words.specs.Words.{Packed, PackedCommand, homeOp, homeField, nullOp, castOp, readOp, operatorOp, accessOf, keepOf, ExprWord, CommandWord, Homes}
+use Rattle.words.specs.Ops.{opStore}
+use Rattle.words.specs.Words.{Packed, PackedCommand, homeOp, homeField, nullOp, castOp, readOp, operatorOp, accessOf, keepOf, startIn, ExprWord, CommandWord, Homes}
 use Rattle.laws.specs.WellRead.{WellRead}
 use Rattle.laws.specs.Known.{formed-known}
 use Rattle.view.specs.Means.{expr-means, command-means, home-has, home-in-range, expr-in-range, command-in-range}
@@ -27,38 +29,34 @@ use Rattle.view.specs.Tags.{expr-none, expr-op, expr-over}
 use Rattle.view.specs.declared.ExprRow.{ExprRow}
 use Rattle.view.specs.declared.CommandRow.{CommandRow}
 use Rattle.view.specs.Rows.{typeRow, homeRow, exprRow, commandRow}
-use Rattle.filling.specs.Filling.{kindAt, homeFieldIn, Kinded, Accepted, HomeReady, ReferenceReady}
+use Rattle.filling.specs.Filling.{homeFieldIn, Accepted, HomeReady, ReferenceReady}
+
+-- ---- kinds
+
+pub field-safe : (t : List ℕ) (g : ℕ) {k : Kind} {b : ℕ} → k ≡ SAFE → b ≡ startIn t g → b ≡ homeFieldIn t k g
+field-safe t g e h = rw e h
+
+-- A type by what it is equal to.
+pub kind-moves : (m : List ℕ) {k : Kind} {t u : ℕ} → t ≡ u → k ≡ kind m t → k ≡ kind m u
+kind-moves m e h = h ∙ ap (kind m) e
+
+pub within-moves : {t u n : ℕ} → t ≡ u → u ≤ n → t ≤ n
+within-moves e h = rw e h
 
 -- ---- parts of a word, by what they are equal to
 
-pub op-kind : (f : Kind → ℕ) (k t : ℕ) (m : List ℕ) {w o a b : ℕ} → o ≡ f (kindAt k) → kindAt k ≡ kind m t → Packed w o a b → Packed w (f (kind m t)) a b
-op-kind f k t m p q h = let e = p ∙ ap f q in record { op = h .op ∙ e; first = h .first; second = h .second }
+pub parts-are : {w o p a b c : ℕ} → o ≡ p → b ≡ c → Packed w o a b → Packed w p a c
+parts-are e f h = rw (← e, ← f) h
 
-pub op-kinds : (f : Kind → Kind → ℕ) (k u t v : ℕ) (m : List ℕ) {w o a b : ℕ} → o ≡ f (kindAt k) (kindAt u) → kindAt k ≡ kind m t → kindAt u ≡ kind m v
-    → Packed w o a b → Packed w (f (kind m t) (kind m v)) a b
-op-kinds f k u t v m p q r h =
-    let e = p ∙ ap (λ s. f s (kindAt u)) q ∙ ap (f (kind m t)) r in
-    record { op = h .op ∙ e; first = h .first; second = h .second }
+pub home-parts : (t : List ℕ) (g : ℕ) {k l : Kind} {w o b : ℕ} → k ≡ l → o ≡ homeOp k → b ≡ homeFieldIn t k g → Packed w o 0 b → Packed w (homeOp l) 0 (homeFieldIn t l g)
+home-parts t g e p q h = rw (← e, ← p, ← q) h
 
-pub second-is : {w o a b c : ℕ} → b ≡ c → Packed w o a b → Packed w o a c
-second-is e h = record { op = h .op; first = h .first; second = h .second ∙ e }
+pub read-parts : {k l u v : Kind} {w o a b : ℕ} → k ≡ l → u ≡ v → o ≡ readOp k u → Packed w o a b → Packed w (readOp l v) a b
+read-parts e f p h = rw (← e, ← f, ← p) h
 
-pub kind-moves : (m : List ℕ) (k : ℕ) {t u : ℕ} → t ≡ u → kindAt k ≡ kind m t → kindAt k ≡ kind m u
-kind-moves m k e h = h ∙ ap (kind m) e
-
-pub kinded-moves : (m : List ℕ) {t u : ℕ} → t ≡ u → Kinded m u → Kinded m t
-kinded-moves m e h = rw e h
-
-pub store-kinds : (k u t v : ℕ) (m : List ℕ) {w a b c d : ℕ} → c ≡ accessOf (kindAt k) → d ≡ keepOf (kindAt k) (kindAt u) → kindAt k ≡ kind m t → kindAt u ≡ kind m v
-    → PackedCommand w 2 a b c d → PackedCommand w 2 a b (accessOf (kind m t)) (keepOf (kind m t) (kind m v))
-store-kinds k u t v m p q r i h =
-    record {
-      op = h .op;
-      first = h .first;
-      second = h .second;
-      third = h .third ∙ p ∙ ap accessOf r;
-      fourth = h .fourth ∙ q ∙ ap (λ s. keepOf s (kindAt u)) r ∙ ap (keepOf (kind m t)) i;
-    }
+pub store-parts : {k l u v : Kind} {w a b c d : ℕ} → k ≡ l → u ≡ v → c ≡ accessOf k → d ≡ keepOf k u → PackedCommand w opStore a b c d
+    → PackedCommand w opStore a b (accessOf l) (keepOf l v)
+store-parts e f p q h = rw (← e, ← f, ← p, ← q) h
 
 -- ---- operators
 
@@ -79,6 +77,9 @@ pub record Operated (n a b : ℕ) : Type 0 where
   pub is : exprOf n a b ≡ op (operatorOf (n - 16)) a b
   pub from : 16 ≤ n
   pub to : n < 25
+
+pub operator-small : {n a b : ℕ} → Operated n a b → n - 16 + 10 < 18446744073709551616
+operator-small z = omega (arith, z .to)
 
 module _ (T H e n a b : ℕ) (good : exprGood T H e (exprOf n a b) ≡ true) where
   not-none : {X : Type 0} → exprOf n a b ≡ Expr.none → X
@@ -119,8 +120,8 @@ module _ {s m ty : List ℕ} {at : Starts} (y : Accepted s at m ty) where
   pub fit : Acceptable (routine s at) m
   fit = judged-fine s m (y .verdict) .1
 
-  pub kinded : (t : ℕ) → t ≤ half s (at .types) → Kinded m t
-  kinded t l = record { inside = omega (arith, fit .size, l); small = λ i k. fit .bytes i (omega (arith, fit .size, k)) }
+  pub kinded : (t : ℕ) → t ≤ half s (at .types) → t ≤ length m
+  kinded t l = omega (arith, fit .size, l)
 
   pub target-in : (p : ℕ) → p ≤ half s (at .types) → routine s at .target p ≤ half s (at .types)
   target-in zero i = let e : at .types + 2 * 0 ≡ at .types = omega arith in rw e (omega arith)
@@ -162,10 +163,10 @@ module _ {s m ty : List ℕ} {at : Starts} (y : Accepted s at m ty) where
           kind = kinded _ (home-in-range s at known a i j .0 .1);
         }
 
-    pub cast-ready : n ≡ 3 → Kinded m b
+    pub cast-ready : n ≡ 3 → b ≤ length m
     cast-ready h = kinded b (leb-true b (half s (at .types)) (parts-true (ltb a e) _ (rw h at expr-good) .1))
 
-    pub null-ready : n ≡ 4 → Kinded m a
+    pub null-ready : n ≡ 4 → a ≤ length m
     null-ready h = kinded a (in-range 1 a (half s (at .types)) (rw h at expr-good) .1)
 
     pub read-before : n ≡ 6 → a < half s (at .exprs)
@@ -174,41 +175,41 @@ module _ {s m ty : List ℕ} {at : Starts} (y : Accepted s at m ty) where
     pub few-exprs : half s (at .exprs) ≤ 1024
     few-exprs = known .exprs .few
 
-    pub literal-word : (w : ℕ) → n ≡ 0 → Packed w 0 0 (a + 65536 * b) → ExprWord (routine s at) m (routine s at .homes) (routine s at .expr e) w
+    pub literal-word : (w : ℕ) → n ≡ 0 → Packed w 0 0 (a + 65536 * b) → ExprWord (routine s at) m (routine s at .expr e) w
     literal-word w h p = rw (← x, h) p
 
     pub home-made : (w : ℕ) (t : List ℕ) → n ≡ 1 → Homes (routine s at .homes) t
         → Packed w (homeOp (kind m (homeRow s at a .ty))) 0 (homeFieldIn t (kind m (homeRow s at a .ty)) a)
-        → ExprWord (routine s at) m (routine s at .homes) (routine s at .expr e) w
+        → ExprWord (routine s at) m (routine s at .expr e) w
     home-made w t h hs p =
         let (i, j) = home-range h in
         let g : homeRow s at a .ty ≡ homeAt (routine s at .homes) a .type = home-has s at a i j .type in
-        let k : a < 65 = omega (arith, j, known .homes .few) in
-        rw (← x, h) (record { op = p .op ∙ ap (λ z. homeOp (kind m z)) g; first = p .first; second = p .second ∙ same (kind m (homeRow s at a .ty)) k ∙ ap (λ z. homeField (kind m z) (homeAt (routine s at .homes) a) a) g })
+        let k : a < 256 = omega (arith, j, known .homes .few) in
+        rw (← x, h) (parts-are (ap (λ z. homeOp (kind m z)) g) (same (kind m (homeRow s at a .ty)) k ∙ ap (λ z. homeField (kind m z) (homeAt (routine s at .homes) a) a) g) p)
       where
-        same : (c : Kind) → a < 65 → homeFieldIn t c a ≡ homeField c (homeAt (routine s at .homes) a) a
+        same : (c : Kind) → a < 256 → homeFieldIn t c a ≡ homeField c (homeAt (routine s at .homes) a) a
         same int k = refl
         same SAFE k = hs .start a k
         same SEQ k = refl
         same DYNAMIC k = refl
 
-    pub cast-made : (w : ℕ) → n ≡ 3 → Packed w (castOp (kind m b)) a 0 → ExprWord (routine s at) m (routine s at .homes) (routine s at .expr e) w
+    pub cast-made : (w : ℕ) → n ≡ 3 → Packed w (castOp (kind m b)) a 0 → ExprWord (routine s at) m (routine s at .expr e) w
     cast-made w h p = rw (← x, h) p
 
-    pub null-made : (w : ℕ) → n ≡ 4 → Packed w (nullOp (kind m a)) 0 0 → ExprWord (routine s at) m (routine s at .homes) (routine s at .expr e) w
+    pub null-made : (w : ℕ) → n ≡ 4 → Packed w (nullOp (kind m a)) 0 0 → ExprWord (routine s at) m (routine s at .expr e) w
     null-made w h p = rw (← x, h) p
 
-    pub sum-made : (w : ℕ) → n ≡ 5 → Packed w 9 a b → ExprWord (routine s at) m (routine s at .homes) (routine s at .expr e) w
+    pub sum-made : (w : ℕ) → n ≡ 5 → Packed w 9 a b → ExprWord (routine s at) m (routine s at .expr e) w
     sum-made w h p = rw (← x, h) p
 
     pub read-made : (w p : ℕ) → n ≡ 6 → p ≡ getD ty a 0 → Packed w (readOp (kind m p) (kind m (typeRow s at p .target))) a 0
-        → ExprWord (routine s at) m (routine s at .homes) (routine s at .expr e) w
+        → ExprWord (routine s at) m (routine s at .expr e) w
     read-made w p h g k = let i : p ≡ typeOf (routine s at) a = g ∙ y .types a (read-before h) in rw (← x, h, ← i) k
 
-    pub operator-made : (w o : ℕ) → Operated n a b → o ≡ n - 6 → Packed w o a b → ExprWord (routine s at) m (routine s at .homes) (routine s at .expr e) w
+    pub operator-made : (w o : ℕ) → Operated n a b → o ≡ n - 16 + 10 → Packed w o a b → ExprWord (routine s at) m (routine s at .expr e) w
     operator-made w o z g p =
         let i : o ≡ operatorOp (operatorOf (n - 16)) = omega (arith, g, operator-at (n - 16) (omega (arith, z .to)), z .from) in
-        rw (← x, z .is) (record { op = p .op ∙ i; first = p .first; second = p .second })
+        rw (← x, z .is) (parts-are i refl p)
 
   -- ---- command rows
 
@@ -240,7 +241,7 @@ module _ {s m ty : List ℕ} {at : Starts} (y : Accepted s at m ty) where
     pub seq-made : (w : ℕ) → tag ≡ 1 → PackedCommand w 1 first second 0 0 → CommandWord (routine s at) m (routine s at .command c) w
     seq-made w h p = rw (← z, h) p
 
-    pub store-made : (w p : ℕ) → tag ≡ 2 → p ≡ getD ty first 0 → PackedCommand w 2 first second (accessOf (kind m p)) (keepOf (kind m p) (kind m (typeRow s at p .target)))
+    pub store-made : (w p : ℕ) → tag ≡ 2 → p ≡ getD ty first 0 → PackedCommand w opStore first second (accessOf (kind m p)) (keepOf (kind m p) (kind m (typeRow s at p .target)))
         → CommandWord (routine s at) m (routine s at .command c) w
     store-made w p h g k = let i : p ≡ typeOf (routine s at) first = g ∙ y .types first (store-before h) in rw (← z, h, ← i) k
 

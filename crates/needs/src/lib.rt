@@ -22,14 +22,15 @@ fn kind_by(byte: u8) -> Kind
 }
 
 // The kind of type `t` under a marking.
-pub fn kind_of(marking: &[u8], t: usize) -> Kind
+pub fn kind_of(marking: &[u8], t: u16) -> Kind
     requires { ⌜ t ≤ length (now marking) ⌝ }
     ensures { λ r. ⌜ r ≡ kind (now (marking .entry)) t ⌝ }
 {
     if t == 0 {
         return Kind::int;
     }
-    kind_by(marking[t - 1])
+    let i = (t - 1) as usize;
+    kind_by(marking[i])
 }
 
 // What expression row `e` asks: a cast its conversion, a pointer sum that its pointer is not SAFE. `ty` has the types of the expression rows.

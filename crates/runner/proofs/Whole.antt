@@ -3,19 +3,20 @@ use mathlib.Core.Path.{_≡_, refl, sym, ap, _∙_}
 use Prim.Native.Nat.{ℕ, zero, suc, _+_, _-_, _<_, _≤_}
 use native.Mathlib.Omega.{arith}
 use mathlib.Core.List.{List}
+use lib.ListN.{length, length-append}
 use Rattle.rules.specs.declared.Starts.{Starts}
 use Rattle.rules.specs.declared.Report.{Report}
 use Rattle.rules.specs.declared.RunAnswer.the-variants as runs
 use Rattle.rules.specs.Basic.{half}
 use Rattle.rules.specs.Steps.{units}
 use Rattle.rules.specs.Table.{Home, Routine, routine}
-use Rattle.rules.specs.Run.{start, exec, run}
-use Rattle.rules.specs.Calls.{endingOf, stateOf, Left, Ended, outcomeSays, runSays, reported}
+use Rattle.rules.specs.Run.{start, exec, run, cleared, given}
+use Rattle.rules.specs.Calls.{endingOf, stateOf, Left, Ended, outcomeSays, runSays, reported, cellCount}
 use Rattle.rules.specs.Ends.{Ends, atStop, leftAfter}
-use Rattle.laws.specs.Start.{start-ok}
+use Rattle.laws.specs.Start.{start-ok, length-start}
 use Rattle.laws.specs.Sound.{exec-ok}
 use Rattle.laws.specs.Units.{exec-spends}
-use Rattle.words.specs.Words.{Tabled}
+use Rattle.words.specs.Words.{RowWords, HomeWords}
 use Rattle.laws.specs.WellRead.{WellRead}
 use Rattle.filling.specs.Filling.{Accepted, CommandsDone}
 use Rattle.filling.proofs.Words.{known, well, fit}
@@ -80,23 +81,32 @@ module _ (s : List ℕ) (at : Starts) (hs : List Home) (memory : List ℕ) where
   reports (Fuel i) fuel y h = y
   reports (Check n i f) fuel y h = (rw (failing-place n (placeAt at i) f) at y, h)
 
+-- ---- the starting memory
+
+pub cleared-room : (r : Routine) (m lent l : List ℕ) → l ≡ cleared r m lent → cellCount r ≤ length l
+cleared-room r m lent l e = rw (e, length-append, length-start r m) (omega arith)
+
+pub started : (r : Routine) (m lent l k : List ℕ) → l ≡ cleared r m lent → k ≡ given r m (r .values) l → k ≡ start r m lent .memory
+started r m lent l k e f = f ∙ ap (λ z. given r m (r .values) z) e
+
 -- ---- the whole
 
 module _ {s m ty t : List ℕ} {at : Starts} (y : Accepted s at m ty) (d : CommandsDone s at m (half s (at .commands)) t) where
-  abbrev pub table : Tabled t
-  table =
+  abbrev rows : RowWords t
+  rows =
       record {
         routine = routine s at;
         marking = m;
-        homes = routine s at .homes;
         formed = well y;
         accepted = fit y;
         fewExprs = known y .exprs .few;
         fewCommands = known y .commands .few;
-        exprs = d .before .words;
-        commands = d .words;
-        sizes = d .before .before .homes;
+        exprs = d .exprs;
+        commands = d .commands;
       }
+
+  abbrev homes : HomeWords (routine s at) t
+  homes = record { list = routine s at .homes; words = d .homes; declared = λ g h. refl }
 
   some : 1 ≤ half s (at .commands)
   some = known y .commands .least
@@ -106,9 +116,9 @@ module _ {s m ty t : List ℕ} {at : Starts} (y : Accepted s at m ty) (d : Comma
     body-in = omega (arith, some, i)
 
     abbrev pub body : Commanded t l c
-    body = record { table = table; valid = rw b (start-ok (routine s at) m (well y) lent); inside = body-in }
+    body = record { rows = rows; homes = homes; valid = rw b (start-ok (routine s at) m (well y) lent); inside = body-in }
 
-    module _ (fuel : ℕ) (x : Ran) (after : List ℕ) (right : (k : Commanded t l c) → ranTold (k .table .routine) (k .table .homes) x after ≡ meantRun k fuel) where
+    module _ (fuel : ℕ) (x : Ran) (after : List ℕ) (right : (k : Commanded t l c) → ranTold (k .rows .routine) (k .homes .list) x after ≡ meantRun k fuel) where
       abbrev H : List Home
       H = routine s at .homes
 

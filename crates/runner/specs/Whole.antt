@@ -1,5 +1,5 @@
 -- What the parts of a whole run are held to.
-use Prim.Native.Nat.{ℕ, _+_, _-_, _≤_, _<_}
+use Prim.Native.Nat.{ℕ, _+_, _-_, _≤_, _<_, _*_}
 use mathlib.Core.List.{List, _++_}
 use lib.ListN.{take, drop, replicate}
 use lib.Dec.{ltb}
@@ -14,14 +14,6 @@ use Rattle.rules.specs.Run.{freshValue}
 use Rattle.view.specs.Rows.{typeRow}
 use Rattle.execute.specs.declared.Ran.{Ran}
 use Rattle.execute.specs.declared.Ran.the-variants.{Done, Fuel, Check}
-
--- x over n entries from place `from` on.
-abbrev pub spread : List ℕ → ℕ → ℕ → ℕ → List ℕ
-spread l from n x = take from l ++ replicate n x ++ drop (from + n) l
-
--- The starting entry of the cells of a home of type p.
-abbrev pub entryIn : List ℕ → Starts → List ℕ → ℕ → ℕ
-entryIn s at m p = encode (freshValue (kind m p) (kind m (typeRow s at p .target)))
 
 -- The place of a row by its number in the table.
 abbrev pub placeAt : Starts → ℕ → ℕ

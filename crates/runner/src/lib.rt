@@ -6,127 +6,19 @@ use rules::Refusal;
 use rules::Report;
 use rules::RunAnswer;
 use rules::Starts;
+use words::WORDS;
 ghost use mathlib.Core.Path.{_≡_};
-ghost use Prim.Native.Nat.{ℕ, _+_, _-_, _≤_, _<_};
+ghost use Prim.Native.Nat.{_≤_, _<_};
 ghost use lib.ListN.{length};
 ghost use Rattle.rules.specs.Table.{routine};
-ghost use Rattle.rules.specs.Memory.{encode};
-ghost use Rattle.rules.specs.Run.{freshValue, givenValue, startAddress, givenIn, cleared, given, run};
+ghost use Rattle.rules.specs.Run.{run};
 ghost use Rattle.rules.specs.Basic.{half};
 ghost use Rattle.rules.specs.Calls.{cellCount, runSays, reported, running, Left, Ended};
 ghost use Rattle.laws.specs.WellRead.{WellRead};
-ghost use Rattle.laws.specs.Formed.{Formed};
-ghost use Rattle.words.specs.Words.{Homes};
-ghost use Rattle.filling.specs.Filling.{kindAt, Accepted, ReferenceReady};
-ghost use Rattle.runner.specs.Whole.{spread, entryIn, placeAt, reportOf, Reportable};
+ghost use Rattle.filling.specs.Filling.{Accepted};
+ghost use Rattle.runner.specs.Whole.{placeAt, reportOf, Reportable};
 
-// ---- the starting memory
-
-// Writes x over n entries from place `from` on.
-fn write(memory: &mut [u64], from: usize, n: usize, x: u64)
-    requires { ⌜ from + n ≤ length (now memory) ⌝ }
-    ensures { λ _. ⌜ now (memory .exit) ≡ spread (now (memory .entry)) from n x ⌝ }
-{
-    let mut i: usize = 0;
-    while i < n {
-        memory[from + i] = x;
-        i = i + 1;
-    }
-}
-
-// What a cell starts as, by the kind of its home's type and of its own. A home's type is no int.
-fn fresh_entry(k: u8, target: u8) -> u64
-    requires { ⌜ 1 ≤ k ⌝ }
-    ensures { λ r. ⌜ r ≡ encode (freshValue (kindAt k) (kindAt target)) ⌝ }
-{
-    if k < 3 {
-        if target < 2 {
-            return 0;
-        }
-    }
-    4294967296
-}
-
-// The same for a home of type p.
-fn home_entry(file: &[u8], at: Starts, marking: &[u8], p: u16) -> u64
-    requires { ⌜ ReferenceReady (now file) at (now marking) p × (1 ≤ p) ⌝ }
-    ensures { λ r. ⌜ r ≡ entryIn (now (file .entry)) at (now (marking .entry)) p ⌝ }
-{
-    let row = view::type_row(file, at, p as usize);
-    let k = filling::kind_of(marking, p);
-    let target = filling::kind_of(marking, row.target);
-    fresh_entry(k, target)
-}
-
-// Writes the cells' own starting values over the lent cells.
-fn clear(file: &[u8], at: Starts, marking: &[u8], ty: &[u16; 1024], n: usize, memory: &mut [u64])
-    requires { ⌜ Accepted (now file) at (now marking) (now ty) × (n ≡ half (now file) (at .homes)) × (cellCount (routine (now file) at) ≤ length (now memory)) ⌝ }
-    ensures { λ _. ⌜ now (memory .exit) ≡ cleared (routine (now (file .entry)) at) (now (marking .entry)) (now (memory .entry)) ⌝ }
-{
-    let mut g: usize = 0;
-    let mut from: usize = 0;
-    while g < n {
-        let row = view::home_row(file, at, g + 1);
-        let x = home_entry(file, at, marking, row.ty);
-        let size = row.size as usize;
-        write(memory, from, size, x);
-        from = from + size;
-        g = g + 1;
-    }
-}
-
-// What a start value is, by its home's kind.
-fn given_entry(k: u8, value: u32) -> u64
-    ensures { λ r. ⌜ r ≡ encode (givenValue (kindAt k) value) ⌝ }
-{
-    if k < 3 {
-        return value as u64;
-    }
-    value as u64 + 4294967296
-}
-
-// The same for start row `i`.
-fn start_entry(file: &[u8], at: Starts, marking: &[u8], ty: &[u16; 1024], i: usize) -> u64
-    requires { ⌜ Accepted (now file) at (now marking) (now ty) × (i < half (now file) (at .values)) ⌝ }
-    ensures { λ r. ⌜ r ≡ encode (givenIn (routine (now (file .entry)) at) (now (marking .entry)) (routine (now (file .entry)) at .value i)) ⌝ }
-{
-    let row = view::start_row(file, at, i);
-    let home = view::home_row(file, at, row.home as usize);
-    let k = filling::kind_of(marking, home.ty);
-    given_entry(k, row.value)
-}
-
-// The place in memory of start row `i`'s cell.
-fn start_cell(file: &[u8], at: Starts, t: &[u64; 2113], i: usize) -> usize
-    requires { ⌜ WellRead (now file) at × Formed (routine (now file) at) × Homes (routine (now file) at .homes) (now t) × (i < half (now file) (at .values)) ⌝ }
-    ensures { λ r. ⌜ r ≡ startAddress (routine (now (file .entry)) at) (routine (now (file .entry)) at .value i) - 1 ⌝ }
-{
-    let row = view::start_row(file, at, i);
-    let start = words::start_of(t, row.home as u32) as usize;
-    start + row.cell as usize - 1
-}
-
-// Writes the start values over the cells.
-fn give(
-    file: &[u8],
-    at: Starts,
-    marking: &[u8],
-    ty: &[u16; 1024],
-    t: &[u64; 2113],
-    memory: &mut [u64],
-)
-    requires { ⌜ Accepted (now file) at (now marking) (now ty) × Homes (routine (now file) at .homes) (now t) × (cellCount (routine (now file) at) ≤ length (now memory)) ⌝ }
-    ensures { λ _. ⌜ now (memory .exit) ≡ given (routine (now (file .entry)) at) (now (marking .entry)) (half (now (file .entry)) (at .values)) (now (memory .entry)) ⌝ }
-{
-    let n = view::start_count(file, at) as usize;
-    let mut i: usize = 0;
-    while i < n {
-        let x = start_entry(file, at, marking, ty, i);
-        let c = start_cell(file, at, t, i);
-        memory[c] = x;
-        i = i + 1;
-    }
-}
+// ---- the cells that are needed
 
 // The cells of a file's homes.
 fn count(file: &[u8], at: Starts, n: usize) -> usize
@@ -190,11 +82,11 @@ pub fn run_checked(
     requires { ⌜ Accepted (now file) at (now marking) (now ty) × (cellCount (routine (now file) at) ≤ length (now memory)) ⌝ }
     ensures { λ r. ⌜ _≡_ {A = Left Ended} (record { answer = runSays (RunAnswer.Ran r); lent = now (memory .exit) }) (reported (run (routine (now (file .entry)) at) (now (marking .entry)) (now (memory .entry)) fuel)) ⌝ }
 {
-    let mut t = [0u64; 2113];
+    let mut t = [0u64; WORDS];
     filling::fill(file, at, marking, ty, &mut t);
     let n = view::row_counts(file, at);
-    clear(file, at, marking, ty, n.homes as usize, memory);
-    give(file, at, marking, ty, &t, memory);
+    starting::clear(file, at, marking, ty, n.homes as usize, memory);
+    starting::give(file, at, marking, ty, &t, memory);
     let body = n.commands as u32 - 1;
     let ran = execute::exec(&t, memory, body, fuel);
     report(at, ran, fuel)

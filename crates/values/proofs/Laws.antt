@@ -23,7 +23,7 @@ use Rattle.values.specs.declared.Entry.{Entry}
 use Rattle.values.specs.declared.Entry.the-variants as entry
 use Rattle.values.specs.Values.{plusOf, toIntIn, toPair, toSafeIn, notNull, reachDynamicIn, reachIn, keptIn, foundOf, entryOf, safeEntry, asNumber}
 
-pub named-pair : (v : Value) (g n : ℕ) → v ≡ Pair g n → Named v → g < 65
+pub named-pair : (v : Value) (g n : ℕ) → v ≡ Pair g n → Named v → g < 256
 named-pair v g n h y = rw h at y
 
 pub named-as : (u v : Value) → u ≡ v → Named v → Named u
@@ -47,8 +47,8 @@ pub halves-pair : (h n : ℕ) → (h ≡ 0 → ⊥) → Pair (h - 1) n ≡ halve
 halves-pair zero n e = absurd (e refl)
 halves-pair (suc h) n e = rw (sub-one (suc h))
 
-pub encode-pair : (v : Value) (g n : ℕ) → v ≡ Pair g n → n + 4294967296 * (g + 1) ≡ encode v
-encode-pair v g n h = rw h (omega arith)
+pub encode-pair : (v : Value) (g n w : ℕ) → v ≡ Pair g n → w ≡ n + 4294967296 * (g + 1) → w ≡ encode v
+encode-pair v g n w h e = rw h (omega arith)
 
 -- ---- conversions
 

@@ -1,7 +1,10 @@
 // The rules for values, over the table's homes: conversions, accesses, operators, and the entries of memory.
 use rules::Value;
+use words::WORDS;
 use words::high;
 use words::low;
+use words::of_halves;
+use words::ops;
 use words::size_of;
 use words::start_of;
 ghost use mathlib.Core.Path.{_≡_};
@@ -43,13 +46,13 @@ pub fn encode(v: Value) -> u64
 {
     match v {
         Value::Number(n) => n as u64,
-        Value::Pair(g, n) => n as u64 + 4294967296 * (g as u64 + 1),
+        Value::Pair(g, n) => of_halves(n, g + 1),
     }
 }
 
 // ---- conversions
 
-// The number of an int or SAFE value. A run meets no pair here; both arms read the same word.
+// The number of an int or SAFE value. No rule covers a pair; its arm reads the same word as the other.
 pub fn number(v: Value) -> u32
     ensures { λ r. ⌜ r ≡ numberOf v ⌝ }
 {
@@ -59,7 +62,7 @@ pub fn number(v: Value) -> u32
     }
 }
 
-pub fn to_int(t: &[u64; 2113], v: Value) -> u32
+pub fn to_int(t: &[u64; WORDS], v: Value) -> u32
     requires { ⌜ Named v ⌝ }
     ensures { λ r. ⌜ r ≡ toIntIn (now (t .entry)) v ⌝ }
 {
@@ -78,7 +81,7 @@ pub fn to_pair(v: Value) -> Value
     }
 }
 
-pub fn to_safe(t: &[u64; 2113], v: Value) -> Found
+pub fn to_safe(t: &[u64; WORDS], v: Value) -> Found
     requires { ⌜ Named v ⌝ }
     ensures { λ r. ⌜ r ≡ foundOf (toSafeIn (now (t .entry)) v) ⌝ }
 {
@@ -93,7 +96,7 @@ pub fn to_safe(t: &[u64; 2113], v: Value) -> Found
     }
 }
 
-// The pointer v plus n.
+// The pointer v plus n. A pointer that is added to is a pair: no rule covers a number, which stays as it is.
 pub fn plus(v: Value, n: u32) -> Value
     ensures { λ r. ⌜ r ≡ plusOf v n ⌝ }
 {
@@ -120,7 +123,7 @@ pub fn reach_safe(v: Value) -> Found
     not_null(number(v))
 }
 
-pub fn reach_seq(t: &[u64; 2113], v: Value) -> Found
+pub fn reach_seq(t: &[u64; WORDS], v: Value) -> Found
     requires { ⌜ Named v ⌝ }
     ensures { λ r. ⌜ r ≡ foundOf (reachSeqIn (now (t .entry)) v) ⌝ }
 {
@@ -131,7 +134,8 @@ pub fn reach_seq(t: &[u64; 2113], v: Value) -> Found
     }
 }
 
-pub fn reach_dynamic(t: &[u64; 2113], v: Value) -> Found
+// A DYNAMIC pointer is a pair: no rule covers a number, which fails as a pair of home 0 does.
+pub fn reach_dynamic(t: &[u64; WORDS], v: Value) -> Found
     requires { ⌜ Named v ⌝ }
     ensures { λ r. ⌜ r ≡ foundOf (reachDynamicIn (now (t .entry)) v) ⌝ }
 {
@@ -149,13 +153,14 @@ pub fn reach_dynamic(t: &[u64; 2113], v: Value) -> Found
     }
 }
 
-pub fn reach(t: &[u64; 2113], access: u32, v: Value) -> Found
+// By the access. No rule covers one past DYNAMIC's, which goes as DYNAMIC.
+pub fn reach(t: &[u64; WORDS], access: u32, v: Value) -> Found
     requires { ⌜ Named v ⌝ }
     ensures { λ r. ⌜ r ≡ foundOf (reachIn (now (t .entry)) access v) ⌝ }
 {
     match access {
-        0 => reach_safe(v),
-        1 => reach_seq(t, v),
+        ops::BY_SAFE => reach_safe(v),
+        ops::BY_SEQ => reach_seq(t, v),
         _ => reach_dynamic(t, v),
     }
 }
@@ -172,14 +177,15 @@ fn safe_entry(x: Found) -> Entry
     }
 }
 
-pub fn kept(t: &[u64; 2113], how: u32, v: Value) -> Entry
+// By how it is kept. No rule covers a number past the last, which goes as the last.
+pub fn kept(t: &[u64; WORDS], how: u32, v: Value) -> Entry
     requires { ⌜ Named v ⌝ }
     ensures { λ r. ⌜ r ≡ entryOf (keptIn (now (t .entry)) how v) ⌝ }
 {
     match how {
-        0 => Entry::Is(to_int(t, v) as u64),
-        1 => Entry::Is(encode(to_pair(v))),
-        2 => safe_entry(to_safe(t, v)),
+        ops::KEEP_INT => Entry::Is(to_int(t, v) as u64),
+        ops::KEEP_PAIR => Entry::Is(encode(to_pair(v))),
+        ops::KEEP_SAFE => safe_entry(to_safe(t, v)),
         _ => Entry::Is(encode(Value::Pair(0, to_int(t, v)))),
     }
 }
@@ -225,7 +231,7 @@ fn right(m: u32, n: u32) -> Found
     Found::Is(0)
 }
 
-// Operator k, from 0 on, of m and n.
+// Operator k, from 0 on, of m and n. No rule covers one past the last, which goes as the last.
 pub fn applied(k: u64, m: u32, n: u32) -> Found
     ensures { λ r. ⌜ r ≡ foundOf (applied (operatorOf k) m n) ⌝ }
 {

@@ -1,4 +1,4 @@
--- The words of a routine's rows under a marking, and of its homes. Code that sees only the words is held to the routine by `Tabled`.
+-- The words of a routine's rows under a marking, and of homes. Code that sees only the words is held to the routine by `RowWords`, and to the homes by `HomeWords`.
 use mathlib.Core.Path.{_≡_}
 use Prim.Native.Nat.{ℕ, _+_, _/_, _%_, _<_, _≤_}
 use mathlib.Core.List.{List}
@@ -11,73 +11,104 @@ use Rattle.rules.specs.declared.Kind.{Kind}
 use Rattle.rules.specs.declared.Kind.the-variants.{int, SAFE, SEQ, DYNAMIC}
 use Rattle.rules.specs.Kinds.{kind, Acceptable}
 use Rattle.rules.specs.Memory.{State}
+use Rattle.rules.specs.Valid.{Real}
 use Rattle.laws.specs.Formed.{Formed}
+use Rattle.words.specs.Ops.{opNumber, opPair, opToInt, opToPair, opToSafe, opReadSafe, opReadSeq, opReadDynamic, opReadInt, opSum, opOperators, opSkip, opThen, opStore, opIf, opWhile, bySafe, bySeq, byDynamic, keepInt, keepPair, keepSafe, keepIntPair}
 
--- ---- parts of a word
+-- ---- parts of a word, as the picture at the head of the code draws them
+
+-- The operation: bits 0 to 7.
+abbrev pub opIn : ℕ → ℕ
+opIn w = w % 256
+
+-- Bits 8 to 23.
+abbrev pub aIn : ℕ → ℕ
+aIn w = w / 256 % 65536
+
+-- Bits 24 to 39, 40 to 55 and 56 to 63 of a command.
+abbrev pub bIn : ℕ → ℕ
+bIn w = w / 16777216 % 65536
+
+abbrev pub cIn : ℕ → ℕ
+cIn w = w / 1099511627776 % 65536
+
+abbrev pub dIn : ℕ → ℕ
+dIn w = w / 72057594037927936
+
+-- The halves. The high one is an expression's b.
+abbrev pub lowIn : ℕ → ℕ
+lowIn w = w % 4294967296
+
+abbrev pub highIn : ℕ → ℕ
+highIn w = w / 4294967296
+
+-- Bits 24 to 31 of an expression.
+abbrev pub gapIn : ℕ → ℕ
+gapIn w = w / 16777216 % 256
 
 pub record Packed (w o a b : ℕ) : Type 0 where
-  pub op : w % 256 ≡ o
-  pub first : w / 256 % 65536 ≡ a
-  pub second : w / 4294967296 ≡ b
+  pub op : opIn w ≡ o
+  pub first : aIn w ≡ a
+  pub gap : gapIn w ≡ 0
+  pub second : highIn w ≡ b
 
 pub record PackedCommand (w o a b c d : ℕ) : Type 0 where
-  pub op : w % 256 ≡ o
-  pub first : w / 256 % 65536 ≡ a
-  pub second : w / 16777216 % 65536 ≡ b
-  pub third : w / 1099511627776 % 65536 ≡ c
-  pub fourth : w / 72057594037927936 ≡ d
+  pub op : opIn w ≡ o
+  pub first : aIn w ≡ a
+  pub second : bIn w ≡ b
+  pub third : cIn w ≡ c
+  pub fourth : dIn w ≡ d
 
--- ---- an expression's operation: 0 a number, 1 a pair of offset 0; 2 to 4 conversions to int, to a pair, to SAFE;
--- 5 to 7 reads through SAFE, SEQ, DYNAMIC, 8 one of an int through DYNAMIC; 9 a pointer sum; 10 to 18 the operators.
+-- ---- an expression's operation
 
 abbrev pub homeOp : Kind → ℕ
-homeOp int = 1
-homeOp SAFE = 0
-homeOp SEQ = 1
-homeOp DYNAMIC = 1
+homeOp int = opPair
+homeOp SAFE = opNumber
+homeOp SEQ = opPair
+homeOp DYNAMIC = opPair
 
 abbrev pub nullOp : Kind → ℕ
-nullOp int = 0
-nullOp SAFE = 0
-nullOp SEQ = 1
-nullOp DYNAMIC = 1
+nullOp int = opNumber
+nullOp SAFE = opNumber
+nullOp SEQ = opPair
+nullOp DYNAMIC = opPair
 
 abbrev pub castOp : Kind → ℕ
-castOp int = 2
-castOp SAFE = 4
-castOp SEQ = 3
-castOp DYNAMIC = 3
+castOp int = opToInt
+castOp SAFE = opToSafe
+castOp SEQ = opToPair
+castOp DYNAMIC = opToPair
 
 abbrev pub readOp : Kind → Kind → ℕ
-readOp int target = 5
-readOp SAFE target = 5
-readOp SEQ target = 6
-readOp DYNAMIC int = 8
-readOp DYNAMIC SAFE = 7
-readOp DYNAMIC SEQ = 7
-readOp DYNAMIC DYNAMIC = 7
+readOp int target = opReadSafe
+readOp SAFE target = opReadSafe
+readOp SEQ target = opReadSeq
+readOp DYNAMIC int = opReadInt
+readOp DYNAMIC SAFE = opReadDynamic
+readOp DYNAMIC SEQ = opReadDynamic
+readOp DYNAMIC DYNAMIC = opReadDynamic
 
 abbrev pub operatorOp : Operator → ℕ
-operatorOp plus = 10
-operatorOp minus = 11
-operatorOp times = 12
-operatorOp over = 13
-operatorOp rest = 14
-operatorOp equal = 15
-operatorOp less = 16
-operatorOp both = 17
-operatorOp right = 18
+operatorOp plus = opOperators
+operatorOp minus = opOperators + 1
+operatorOp times = opOperators + 2
+operatorOp over = opOperators + 3
+operatorOp rest = opOperators + 4
+operatorOp equal = opOperators + 5
+operatorOp less = opOperators + 6
+operatorOp both = opOperators + 7
+operatorOp right = opOperators + 8
 
 module _ (r : Routine) (m : List ℕ) where
   abbrev pub opFor : Expr → ℕ
-  opFor (literal n) = 0
+  opFor (literal n) = opNumber
   opFor (home g) = homeOp (kind m (homeAt (r .homes) g .type))
   opFor (cast a t) = castOp (kind m t)
   opFor (null t) = nullOp (kind m t)
-  opFor (sum a b) = 9
+  opFor (sum a b) = opSum
   opFor (read a) = readOp (kind m (typeOf r a)) (kind m (r .target (typeOf r a)))
   opFor (op o a b) = operatorOp o
-  opFor Expr.none = 0
+  opFor Expr.none = opNumber
 
 abbrev pub aFor : Expr → ℕ
 aFor (literal n) = 0
@@ -96,10 +127,10 @@ homeField SAFE h g = h .start
 homeField SEQ h g = g
 homeField DYNAMIC h g = g
 
-module _ (r : Routine) (m : List ℕ) (hs : List Home) where
+module _ (r : Routine) (m : List ℕ) where
   abbrev pub bFor : Expr → ℕ
   bFor (literal n) = n
-  bFor (home g) = homeField (kind m (homeAt (r .homes) g .type)) (homeAt hs g) g
+  bFor (home g) = homeField (kind m (homeAt (r .homes) g .type)) (homeAt (r .homes) g) g
   bFor (cast a t) = 0
   bFor (null t) = 0
   bFor (sum a b) = b
@@ -111,15 +142,15 @@ module _ (r : Routine) (m : List ℕ) (hs : List Home) where
   abbrev pub ExprWord : Expr → ℕ → Type 0
   ExprWord x w = Packed w (opFor r m x) (aFor x) (bFor x)
 
--- ---- a command's operation is its tag. A store's third field tells the access, its fourth what is kept
+-- ---- a command's operation
 
 abbrev pub commandOp : Command → ℕ
-commandOp skip = 0
-commandOp (then a b) = 1
-commandOp (store a b) = 2
-commandOp (ifElse a b c) = 3
-commandOp (while a b) = 4
-commandOp Command.none = 0
+commandOp skip = opSkip
+commandOp (then a b) = opThen
+commandOp (store a b) = opStore
+commandOp (ifElse a b c) = opIf
+commandOp (while a b) = opWhile
+commandOp Command.none = opSkip
 
 abbrev pub firstFor : Command → ℕ
 firstFor skip = 0
@@ -137,29 +168,28 @@ secondFor (ifElse a b c) = b
 secondFor (while a b) = b
 secondFor Command.none = 0
 
--- 0 SAFE, 1 SEQ, 2 DYNAMIC.
+-- A store's access, by its pointer's kind.
 abbrev pub accessOf : Kind → ℕ
-accessOf int = 0
-accessOf SAFE = 0
-accessOf SEQ = 1
-accessOf DYNAMIC = 2
+accessOf int = bySafe
+accessOf SAFE = bySafe
+accessOf SEQ = bySeq
+accessOf DYNAMIC = byDynamic
 
--- 0 to int, 1 to a pair, 2 to SAFE.
+-- What it keeps, by the kind of what it stores; and by its pointer's too.
 abbrev pub convertOf : Kind → ℕ
-convertOf int = 0
-convertOf SAFE = 2
-convertOf SEQ = 1
-convertOf DYNAMIC = 1
+convertOf int = keepInt
+convertOf SAFE = keepSafe
+convertOf SEQ = keepPair
+convertOf DYNAMIC = keepPair
 
--- 3 to int and on to a pair of home 0.
 abbrev pub keepOf : Kind → Kind → ℕ
 keepOf int target = convertOf target
 keepOf SAFE target = convertOf target
 keepOf SEQ target = convertOf target
-keepOf DYNAMIC int = 3
-keepOf DYNAMIC SAFE = 2
-keepOf DYNAMIC SEQ = 1
-keepOf DYNAMIC DYNAMIC = 1
+keepOf DYNAMIC int = keepIntPair
+keepOf DYNAMIC SAFE = keepSafe
+keepOf DYNAMIC SEQ = keepPair
+keepOf DYNAMIC DYNAMIC = keepPair
 
 module _ (r : Routine) (m : List ℕ) where
   abbrev pub thirdFor : Command → ℕ
@@ -184,35 +214,41 @@ module _ (r : Routine) (m : List ℕ) where
 -- ---- homes: low half the start, high half the size
 
 abbrev pub startIn : List ℕ → ℕ → ℕ
-startIn t g = getD t (2048 + g) 0 % 4294967296
+startIn t g = lowIn (getD t (2048 + g) 0)
 
 abbrev pub sizeIn : List ℕ → ℕ → ℕ
-sizeIn t g = getD t (2048 + g) 0 / 4294967296
+sizeIn t g = highIn (getD t (2048 + g) 0)
 
+-- The words of these homes, home 0 first. A home that there is not has start and size 0.
 pub record Homes (hs : List Home) (t : List ℕ) : Type 0 where
-  pub few : (g : ℕ) → 0 < homeAt hs g .size → g < 65
-  pub start : (g : ℕ) → g < 65 → startIn t g ≡ homeAt hs g .start
-  pub size : (g : ℕ) → g < 65 → sizeIn t g ≡ homeAt hs g .size
+  pub few : (g : ℕ) → 0 < homeAt hs g .size → g < 256
+  pub start : (g : ℕ) → g < 256 → startIn t g ≡ homeAt hs g .start
+  pub size : (g : ℕ) → g < 256 → sizeIn t g ≡ homeAt hs g .size
 
--- A pair that names one of the table's homes.
+-- A pair that names a home of which the table has a word.
 abbrev pub Named : Value → Type 0
 Named (Number n) = Unit {0}
-Named (Pair g n) = g < 65
+Named (Pair g n) = g < 256
 
--- ---- the whole table: a routine, a marking and homes that it stands for. No code holds them
+-- ---- the whole table: what its rows' words stand for, and what its homes' words do. No code holds either
 
-pub record Tabled (t : List ℕ) : Type 0 where
+-- A routine and a marking. These words never change while running.
+pub record RowWords (t : List ℕ) : Type 0 where
   pub routine : Routine
   pub marking : List ℕ
-  pub homes : List Home
   pub formed : Formed routine
   pub accepted : Acceptable routine marking
   pub fewExprs : routine .exprs ≤ 1024
   pub fewCommands : routine .commands ≤ 1024
-  pub exprs : (e : ℕ) → e < routine .exprs → ExprWord routine marking homes (routine .expr e) (getD t e 0)
+  pub exprs : (e : ℕ) → e < routine .exprs → ExprWord routine marking (routine .expr e) (getD t e 0)
   pub commands : (c : ℕ) → c < routine .commands → CommandWord routine marking (routine .command c) (getD t (1024 + c) 0)
-  pub sizes : Homes homes t
 
--- The state of a table's homes and a memory.
-abbrev pub state : {t : List ℕ} → Tabled t → List ℕ → State
-state g memory = record { homes = g .homes; memory = memory }
+-- The homes that there are. Those of the routine stay where they are: its rows' words tell their addresses.
+pub record HomeWords (r : Routine) (t : List ℕ) : Type 0 where
+  pub list : List Home
+  pub words : Homes list t
+  pub declared : (g : ℕ) → Real (r .homes) g → homeAt list g .start ≡ homeAt (r .homes) g .start
+
+-- The state of these homes and a memory.
+abbrev pub state : {r : Routine} {t : List ℕ} → HomeWords r t → List ℕ → State
+state h memory = record { homes = h .list; memory = memory }

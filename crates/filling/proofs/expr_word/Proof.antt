@@ -1,7 +1,7 @@
 -- By the row's tag.
 use native.Mathlib.Omega.{arith}
 use mathlib.Core.Path.{refl}
-use Rattle.filling.proofs.Words.{known, reference, expr-good, home-ready, cast-ready, null-ready, read-before, few-exprs, literal-word, home-made, cast-made, null-made, sum-made, read-made, operator-made, other-tag}
+use Rattle.filling.proofs.Words.{known, reference, expr-good, home-ready, cast-ready, null-ready, read-before, few-exprs, literal-word, home-made, cast-made, null-made, sum-made, read-made, operator-made, operator-small, other-tag}
 use borrow.Author.Needs.{needs}
 use Rattle.filling.proofs.expr_word.Statement.{statement}
 use Rattle.filling.proofs.expr_word.Tie as tie
@@ -60,6 +60,9 @@ cast-word-5 c = search needs
 sub-word : tie.Need-sub-word
 sub-word c = let n = c .match .rest in omega (arith, other-tag _ _ _ (c .before .expr-row .result .tag) (c .before .expr-row .result .a) (c .before .expr-row .result .b) (expr-good (c .before .before .before .before .pre .accepted) (c .before .before .before .before .args .e) (c .before .expr-row .result) (c .before .before .before .before .pre .row) (c .before .expr-row .ensures)) (n .0 .0 .0 .0 .0 .1) (n .0 .0 .0 .0 .1) (n .0 .0 .0 .1) (n .0 .0 .1) (n .0 .1) (n .1) .from)
 
+add-word-2 : tie.Need-add-word-2
+add-word-2 c = let n = c .match .rest in record { fits = operator-small (other-tag _ _ _ (c .before .expr-row .result .tag) (c .before .expr-row .result .a) (c .before .expr-row .result .b) (expr-good (c .before .before .before .before .pre .accepted) (c .before .before .before .before .args .e) (c .before .expr-row .result) (c .before .before .before .before .pre .row) (c .before .expr-row .ensures)) (n .0 .0 .0 .0 .0 .1) (n .0 .0 .0 .0 .1) (n .0 .0 .0 .1) (n .0 .0 .1) (n .0 .1) (n .1)) }
+
 cast-word-6 : tie.Need-cast-word-6
 cast-word-6 c = search needs
 
@@ -112,6 +115,7 @@ expr-word-spec =
     read-word-requires
     cast-word-5
     sub-word
+    add-word-2
     cast-word-6
     cast-word-7
     word-requires-3

@@ -17,7 +17,7 @@ abbrev μ-loop : tie.MeasureT-loop
 μ-loop file at marking ty n t₀ c₀ t c = n - c
 
 loop-holds : tie.Need-loop-holds Inv-loop μ-loop
-loop-holds c = (search needs, commands-none (c .before .before .pre .1), refl)
+loop-holds c = (search needs, commands-none (known (c .before .before .pre .0) .exprs .few) (c .before .before .pre .1), refl)
 
 row-word-requires : tie.Need-row-word-requires Inv-loop μ-loop
 row-word-requires c κs = record { accepted = c .before .before .before .before .pre .0; row = omega (arith, c .loop-test .taken, c .before .before .before .before .pre .2) }
@@ -29,7 +29,7 @@ mul-t : tie.Need-mul-t Inv-loop μ-loop
 mul-t c = omega (arith, c .before .loop-test .taken, c .before .before .before .before .before .pre .2, known (c .before .before .before .before .before .pre .0) .commands .few)
 
 element-write-t : tie.Need-element-write-t Inv-loop μ-loop
-element-write-t c = omega (arith, c .before .before .loop .inv .1 .before .before .size, c .before .loop-test .taken, c .before .before .before .before .before .pre .2, known (c .before .before .before .before .before .pre .0) .commands .few)
+element-write-t c = omega (arith, c .before .before .loop .inv .1 .size, c .before .loop-test .taken, c .before .before .before .before .before .pre .2, known (c .before .before .before .before .before .pre .0) .commands .few)
 
 add-c : tie.Need-add-c Inv-loop μ-loop
 add-c c = search needs

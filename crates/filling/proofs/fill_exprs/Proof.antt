@@ -20,13 +20,13 @@ loop-holds : tie.Need-loop-holds Inv-loop μ-loop
 loop-holds c = (search needs, exprs-none (c .before .before .pre .1), refl)
 
 expr-word-requires : tie.Need-expr-word-requires Inv-loop μ-loop
-expr-word-requires c κs = record { accepted = c .before .before .before .before .before .pre .0; homes = c .before .before .loop .inv .1 .before .homes; row = omega (arith, c .before .loop-test .taken, c .before .before .before .before .before .pre .2) }
+expr-word-requires c κs = record { accepted = c .before .before .before .before .before .pre .0; homes = c .before .before .loop .inv .1 .homes; row = omega (arith, c .before .loop-test .taken, c .before .before .before .before .before .pre .2) }
 
 mul-t : tie.Need-mul-t Inv-loop μ-loop
 mul-t c = omega (arith, c .before .before .loop-test .taken, c .before .before .before .before .before .before .pre .2, known (c .before .before .before .before .before .before .pre .0) .exprs .few)
 
 element-write-t : tie.Need-element-write-t Inv-loop μ-loop
-element-write-t c = omega (arith, c .before .before .before .loop .inv .1 .before .size, c .before .before .loop-test .taken, c .before .before .before .before .before .before .pre .2, known (c .before .before .before .before .before .before .pre .0) .exprs .few)
+element-write-t c = omega (arith, c .before .before .before .loop .inv .1 .size, c .before .before .loop-test .taken, c .before .before .before .before .before .before .pre .2, known (c .before .before .before .before .before .before .pre .0) .exprs .few)
 
 add-e : tie.Need-add-e Inv-loop μ-loop
 add-e c = search needs

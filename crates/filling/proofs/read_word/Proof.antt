@@ -1,10 +1,8 @@
 -- The operation is that of the kinds of the pointer and its target.
-use Rattle.view.specs.Rows.{typeRow}
 use denote.Ref.{now}
 use mathlib.Core.Path.{ap}
 use Rattle.view.specs.declared.TypeRow.{TypeRow}
-use Rattle.words.specs.Words.{readOp}
-use Rattle.filling.proofs.Words.{op-kinds, kind-moves, kinded-moves}
+use Rattle.filling.proofs.Words.{kind-moves, within-moves, read-parts}
 use borrow.Author.Needs.{needs}
 use Rattle.filling.proofs.read_word.Statement.{statement}
 use Rattle.filling.proofs.read_word.Tie as tie
@@ -16,7 +14,7 @@ kind-of-requires : tie.Need-kind-of-requires
 kind-of-requires c κs = search needs
 
 kind-of-requires-2 : tie.Need-kind-of-requires-2
-kind-of-requires-2 c κs = kinded-moves (now (c .before .before .before .before .args .marking)) (ap (λ (x : TypeRow). x .target) (c .before .type-row .ensures)) (c .before .before .before .before .pre .target)
+kind-of-requires-2 c κs = within-moves (ap (λ (x : TypeRow). x .target) (c .before .type-row .ensures)) (c .before .before .before .before .pre .target)
 
 read-op-requires : tie.Need-read-op-requires
 read-op-requires c κs = search needs
@@ -25,7 +23,7 @@ word-requires : tie.Need-word-requires
 word-requires c κs = search needs
 
 returns : tie.Need-returns
-returns c = op-kinds readOp (c .before .before .before .kind-of .result) (c .before .before .kind-of2 .result) (c .before .before .before .before .before .before .before .args .p) (typeRow (now (c .before .before .before .before .before .before .before .args .file)) (c .before .before .before .before .before .before .before .args .at) (c .before .before .before .before .before .before .before .args .p) .target) (now (c .before .before .before .before .before .before .before .args .marking)) (c .before .read-op .ensures .0) (c .before .before .before .kind-of .ensures) (kind-moves (now (c .before .before .before .before .before .before .before .args .marking)) (c .before .before .kind-of2 .result) (ap (λ (x : TypeRow). x .target) (c .before .before .before .before .type-row .ensures)) (c .before .before .kind-of2 .ensures)) (c .word .ensures)
+returns c = read-parts (c .before .before .before .kind-of .ensures) (kind-moves (now (c .before .before .before .before .before .before .before .args .marking)) (ap (λ (x : TypeRow). x .target) (c .before .before .before .before .type-row .ensures)) (c .before .before .kind-of2 .ensures)) (c .before .read-op .ensures .0) (c .word .ensures)
 
 pub read-word-spec : {M : Type 1} → statement M
 read-word-spec =

@@ -11,8 +11,11 @@ use Rattle.needs.proofs.kind_by.Reads as kind-by-reads
 returns : tie.Need-returns
 returns c = search needs
 
-sub-kind-by : tie.Need-sub-kind-by
-sub-kind-by c = search needs
+sub-i : tie.Need-sub-i
+sub-i c = search needs
+
+cast-i : tie.Need-cast-i
+cast-i c = search needs
 
 shared-slice-read-kind-by : tie.Need-shared-slice-read-kind-by
 shared-slice-read-kind-by c = search needs
@@ -25,4 +28,4 @@ returns-2 c = c .kind-by .ensures ∙ sym (kind-up _ _ (c .before .before .if1 .
 
 pub kind-of-spec : {M : Type 1} → statement M
 kind-of-spec =
-    tie.close (tie.spec returns sub-kind-by shared-slice-read-kind-by kind-by-requires returns-2)
+    tie.close (tie.spec returns sub-i cast-i shared-slice-read-kind-by kind-by-requires returns-2)

@@ -5,15 +5,14 @@ use Rattle.view.specs.declared.Counts.{Counts}
 use Rattle.filling.proofs.Words.{known}
 use mathlib.Core.Path.{refl, ap}
 use Rattle.rules.specs.Table.{routine}
-use Rattle.runner.proofs.Whole.{body, reportable, whole}
-use Rattle.runner.proofs.Given.{cleared-room, started}
+use Rattle.runner.proofs.Whole.{cleared-room, started, body, reportable, whole}
 use Rattle.runner.proofs.Parts.{zeros}
 use borrow.Author.Needs.{needs}
 use Rattle.runner.proofs.run_checked.Statement.{statement}
 use Rattle.runner.proofs.run_checked.Tie as tie
 
 fill-requires : tie.Need-fill-requires
-fill-requires c κs = (c .before .before .before .before .pre .0, refl, λ k. zeros 2113 k)
+fill-requires c κs = (c .before .before .before .before .pre .0, refl, λ k. zeros 2304 k)
 
 row-counts-requires : tie.Need-row-counts-requires
 row-counts-requires c κs = known (c .before .before .before .before .before .pre .0)
@@ -25,7 +24,7 @@ clear-requires : tie.Need-clear-requires
 clear-requires c κs = (c .before .before .before .before .before .before .before .before .pre .0, ap (λ (x : Counts). x .homes) (c .before .before .row-counts .ensures), c .before .before .before .before .before .before .before .before .pre .1)
 
 give-requires : tie.Need-give-requires
-give-requires c κs = (c .before .before .before .before .before .before .before .before .before .before .before .before .before .pre .0, c .before .before .before .before .before .before .before .before .fill .ensures .before .before .homes, cleared-room (routine (c .before .before .before .before .before .before .before .before .before .before .before .before .before .args .file .now) (c .before .before .before .before .before .before .before .before .before .before .before .before .before .args .at)) (c .before .before .before .before .before .before .before .before .before .before .before .before .before .args .marking .now) _ _ (c .before .before .before .before .clear .ensures))
+give-requires c κs = (c .before .before .before .before .before .before .before .before .before .before .before .before .before .pre .0, c .before .before .before .before .before .before .before .before .fill .ensures .homes, cleared-room (routine (c .before .before .before .before .before .before .before .before .before .before .before .before .before .args .file .now) (c .before .before .before .before .before .before .before .before .before .before .before .before .before .args .at)) (c .before .before .before .before .before .before .before .before .before .before .before .before .before .args .marking .now) _ _ (c .before .before .before .before .clear .ensures))
 
 cast-body : tie.Need-cast-body
 cast-body c = search needs

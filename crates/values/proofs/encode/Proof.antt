@@ -14,26 +14,17 @@ cast-result c = search needs
 enum-known-v-2 : tie.Need-enum-known-v-2
 enum-known-v-2 c = search needs
 
-cast-result-2 : tie.Need-cast-result-2
-cast-result-2 c = search needs
+add-of-halves : tie.Need-add-of-halves
+add-of-halves c = omega (arith, named-pair _ _ _ (c .before .v2 .given .1) (c .before .before .before .pre))
 
-cast-result-3 : tie.Need-cast-result-3
-cast-result-3 c = search needs
-
-add-result : tie.Need-add-result
-add-result c = search needs
-
-mul-result : tie.Need-mul-result
-mul-result c = omega (arith, named-pair _ _ _ (c .before .v2 .given .1) (c .before .before .before .pre))
-
-add-result-2 : tie.Need-add-result-2
-add-result-2 c = omega (arith, named-pair _ _ _ (c .before .v2 .given .1) (c .before .before .before .pre))
+of-halves-requires : tie.Need-of-halves-requires
+of-halves-requires c κs = search needs
 
 returns : tie.Need-returns
 returns c = search needs
 
 returns-2 : tie.Need-returns-2
-returns-2 c = encode-pair _ _ _ (c .before .v2 .given .1)
+returns-2 c = encode-pair _ _ _ _ (c .before .before .v2 .given .1) (c .of-halves .ensures)
 
 pub encode-spec : {M : Type 1} → statement M
 encode-spec =
@@ -42,10 +33,7 @@ encode-spec =
     enum-known-v
     cast-result
     enum-known-v-2
-    cast-result-2
-    cast-result-3
-    add-result
-    mul-result
-    add-result-2
+    add-of-halves
+    of-halves-requires
     returns
     returns-2)
