@@ -154,6 +154,11 @@ nested exprs commands = file (typeRow 0 ∷ typeRow 1 ∷ []) (homeRow 1 3 ∷ h
 abbrev pub recast : ℕ → List ℕ
 recast t = file (typeRow 0 ∷ typeRow t ∷ typeRow 1 ∷ typeRow 2 ∷ []) [] (null 3 ∷ cast 0 4 ∷ []) (skip ∷ [])
 
+-- The same a level further up: T5 is ref T3 and T6 is ref T4. The cast stands at 23.
+abbrev pub deepCast : List ℕ
+deepCast =
+    file (typeRow 0 ∷ typeRow 0 ∷ typeRow 1 ∷ typeRow 2 ∷ typeRow 3 ∷ typeRow 4 ∷ []) [] (null 5 ∷ cast 0 6 ∷ []) (skip ∷ [])
+
 -- Home 1 has three ints, home 2 (from address 4 on) two. Start rows follow, from 27 on.
 abbrev pub ints : List (List ℕ) → List ℕ
 ints values = file (typeRow 0 ∷ []) (homeRow 1 3 ∷ homeRow 1 2 ∷ []) [] (skip ∷ []) ++ sect values

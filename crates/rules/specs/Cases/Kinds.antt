@@ -7,7 +7,7 @@ use Rattle.rules.specs.Shape.{typeOf, shape}
 use Rattle.rules.specs.Kinds.{same, converts, kinds}
 use Rattle.rules.specs.Run.{andThen, ruled, enter, afterwards}
 use Rattle.rules.specs.Calls.{formed, judged, checking, inferable, runnable, running}
-use Rattle.rules.specs.Cases.Files.{typeRow, literal, home, cast, null, sum, skip, store, file, twoTypes, case1, case4, case11, unused, operand, nested, recast}
+use Rattle.rules.specs.Cases.Files.{typeRow, literal, home, cast, null, sum, skip, store, file, twoTypes, case1, case4, case11, unused, operand, nested, recast, deepCast}
 use Rattle.rules.specs.Cases.Rows.{lent, plenty, ends, accepted, rejected, inferredIn, inferred, notInferred, ranIn, Row}
 
 -- The marking: its length and its bytes (7), after 6 and before 8.
@@ -58,6 +58,11 @@ conversions =
     ∷ accepted (recast 1) (2 ∷ 2 ∷ 0 ∷ 0 ∷ []) refl
     ∷ rejected (recast 1) (2 ∷ 0 ∷ 0 ∷ 0 ∷ []) 8 19 refl
     ∷ accepted (recast 1) (2 ∷ 2 ∷ 2 ∷ 2 ∷ []) refl
+    ∷ accepted deepCast (0 ∷ 0 ∷ 0 ∷ 0 ∷ 0 ∷ 0 ∷ []) refl
+    ∷ accepted deepCast (1 ∷ 1 ∷ 0 ∷ 0 ∷ 1 ∷ 0 ∷ []) refl
+    ∷ accepted deepCast (2 ∷ 2 ∷ 2 ∷ 2 ∷ 0 ∷ 0 ∷ []) refl
+    ∷ rejected deepCast (0 ∷ 1 ∷ 0 ∷ 0 ∷ 0 ∷ 0 ∷ []) 8 23 refl
+    ∷ rejected deepCast (0 ∷ 0 ∷ 1 ∷ 0 ∷ 0 ∷ 0 ∷ []) 8 23 refl
     ∷ rejected (file (typeRow 0 ∷ typeRow 1 ∷ []) [] (null 1 ∷ cast 0 2 ∷ []) (skip ∷ [])) (0 ∷ 0 ∷ []) 8 15 refl
     ∷ rejected (file (typeRow 0 ∷ typeRow 1 ∷ []) [] (null 1 ∷ cast 0 2 ∷ []) (skip ∷ [])) (1 ∷ 1 ∷ []) 8 15 refl
     ∷ accepted (file (typeRow 0 ∷ typeRow 1 ∷ []) [] (null 1 ∷ cast 0 2 ∷ []) (skip ∷ [])) (2 ∷ 2 ∷ []) refl

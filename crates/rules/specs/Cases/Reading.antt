@@ -18,6 +18,7 @@ startRows =
     ∷ ran (tray (sect [])) (0 ∷ []) (ends 6) (three 1 0 0) refl
     ∷ formedAt (tray []) 4 10 32 41 refl
     ∷ formedAt (tray (sect [])) 4 10 32 41 refl
+    ∷ formedAt disc 4 10 32 41 refl
     ∷ inferred disc (0 ∷ []) refl
     ∷ ran disc (0 ∷ []) (ends 6) (three 8 0 9) refl
     ∷ ranOn 0 disc (0 ∷ []) (starves 34 0) (three 7 0 9) refl

@@ -67,6 +67,7 @@ flow =
     ∷ ranOn 1 case1 (0 ∷ []) (starves 12 1) zeros refl
     ∷ ranOn 3 case1 (0 ∷ []) (ends 3) (three 7 0 0) refl
     ∷ ran (counting 0) (0 ∷ []) (ends 5) zeros refl
+    ∷ ranOn 1 (counting 4) (0 ∷ []) (starves 27 1) zeros refl
     ∷ ranOn 11 (counting 4) (0 ∷ []) (starves 51 11) (three 1 0 0) refl
     ∷ ranOn 12 (counting 4) (0 ∷ []) (starves 27 12) (three 1 0 0) refl
     ∷ failing (nested (null 2 ∷ read 0 ∷ literal 0 ∷ expr 19 2 2 ∷ sum 1 3 ∷ cast 1 0 ∷ expr 16 5 3 ∷ expr 16 3 5 ∷ []) (skip ∷ [])) (1 ∷ 0 ∷ []) 4 3 check1 23 refl
