@@ -10,7 +10,7 @@ pub mod Running
 use mathlib.Core.List.{List, [], _∷_, _++_, map}
 use Rattle.rules.specs.Cases.Scope.{scope}
 use Rattle.rules.specs.Cases.Reading.{startRows, counts, sizes, exprRows, commandRows, shapes}
-use Rattle.rules.specs.Cases.Kinds.{lengths, conversions, firsts, lending, least}
+use Rattle.rules.specs.Cases.Kinds.{lengths, conversions, targets, others, firsts, lending, least}
 use Rattle.rules.specs.Cases.Values.{operators, converted, accesses, stuckForms}
 use Rattle.rules.specs.Cases.Running.{stores, fresh, flow, answers}
 use Rattle.rules.specs.Cases.Rows.{Case, Holds, Row}
@@ -19,7 +19,7 @@ abbrev pub table : List Row
 table =
     scope
     ++ startRows ++ counts ++ sizes ++ exprRows ++ commandRows ++ shapes
-    ++ lengths ++ conversions ++ firsts ++ lending ++ least
+    ++ lengths ++ conversions ++ targets ++ others ++ firsts ++ lending ++ least
     ++ operators ++ converted ++ accesses ++ stuckForms
     ++ stores ++ fresh ++ flow ++ answers
 

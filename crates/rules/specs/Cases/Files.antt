@@ -146,9 +146,25 @@ operand exprs = unused (home 1 ∷ literal 5 ∷ exprs)
 abbrev pub calculation : ℕ → ℕ → ℕ → List ℕ
 calculation tag x y = unused (literal x ∷ literal y ∷ expr tag 0 1 ∷ [])
 
--- T2 is ref T1. Home 1 has three ints, home 2 (from address 4 on) two references to int.
-abbrev pub nested : List (List ℕ) → List (List ℕ) → List ℕ
-nested exprs commands = file (typeRow 0 ∷ typeRow 1 ∷ []) (homeRow 1 3 ∷ homeRow 2 2 ∷ []) exprs commands
+-- Two types that nothing uses.
+abbrev pub idle : List ℕ
+idle = twoTypes [] (skip ∷ [])
+
+-- 5 is cast to T1, at 17.
+abbrev pub intCast : List ℕ
+intCast = unused (literal 5 ∷ cast 0 1 ∷ [])
+
+-- A null of T1 is cast to T2, both ref int, at 19.
+abbrev pub pairCast : List ℕ
+pairCast = twoTypes (null 1 ∷ cast 0 2 ∷ []) (skip ∷ [])
+
+-- T2 is ref T1, and a null of T1 is cast to it, at 15.
+abbrev pub unevenCast : List ℕ
+unevenCast = file (typeRow 0 ∷ typeRow 1 ∷ []) [] (null 1 ∷ cast 0 2 ∷ []) (skip ∷ [])
+
+-- T2 is ref T1, and T3 is ref int. A null of one of the two is cast to the other, at 17.
+abbrev pub mixedCast : ℕ → ℕ → List ℕ
+mixedCast from to = file (typeRow 0 ∷ typeRow 1 ∷ typeRow 0 ∷ []) [] (null from ∷ cast 0 to ∷ []) (skip ∷ [])
 
 -- T2 is ref t, T3 is ref T1 and T4 is ref T2. A null of T3 is cast to T4, at 19.
 abbrev pub recast : ℕ → List ℕ
@@ -168,6 +184,26 @@ abbrev pub stocked : List (List ℕ) → List ℕ
 stocked exprs =
     file (typeRow 0 ∷ []) (homeRow 1 3 ∷ homeRow 1 2 ∷ []) exprs (skip ∷ []) ++ sect (startRow 1 2 7 ∷ startRow 2 0 8 ∷ startRow 2 1 9 ∷ [])
 
+-- Home 1 is stored through itself: a reference in an int cell.
+abbrev pub selfStore : List ℕ
+selfStore = oneType (home 1 ∷ []) (store 0 0 ∷ [])
+
+-- T2 is ref T1. Home 1 has three ints, home 2 (from address 4 on) two references to int.
+abbrev pub nested : List (List ℕ) → List (List ℕ) → List ℕ
+nested exprs commands = file (typeRow 0 ∷ typeRow 1 ∷ []) (homeRow 1 3 ∷ homeRow 2 2 ∷ []) exprs commands
+
+-- The same with no expressions. The body stands at 20.
+abbrev pub nestedTypes : List ℕ
+nestedTypes = nested [] (skip ∷ [])
+
+-- Home 1 is stored in home 2.
+abbrev pub pointed : List ℕ
+pointed = nested (home 2 ∷ home 1 ∷ []) (store 0 1 ∷ [])
+
+-- Home 1 + 2 is stored in home 2, then 6 through what home 2 holds.
+abbrev pub followed : List ℕ
+followed = nested (home 2 ∷ home 1 ∷ literal 2 ∷ sum 1 2 ∷ read 0 ∷ literal 6 ∷ []) (store 0 3 ∷ store 4 5 ∷ command 1 0 1 0 ∷ [])
+
 -- T3 is ref T2. Home 1 + k is stored in home 2, whose one cell has type T2; the store stands at 42.
 abbrev pub narrowed : ℕ → List ℕ
 narrowed k =
@@ -176,3 +212,11 @@ narrowed k =
 -- If n then 7 is stored, else 8.
 abbrev pub branches : ℕ → List ℕ
 branches n = oneType (literal n ∷ home 1 ∷ literal 7 ∷ literal 8 ∷ []) (store 1 2 ∷ store 1 3 ∷ command 3 0 0 1 ∷ [])
+
+-- Row 1, at 23, reads through null, and row 3, at 33, divides by zero; row 4 is their sum, rows 6 and 7 `+` of the two, each way round.
+abbrev pub twoStops : List ℕ
+twoStops = nested (null 2 ∷ read 0 ∷ literal 0 ∷ expr 19 2 2 ∷ sum 1 3 ∷ cast 1 0 ∷ expr 16 5 3 ∷ expr 16 3 5 ∷ []) (skip ∷ [])
+
+-- A cell of a DYNAMIC home, read through SAFE: a pair where an int is needed, in the rows at 34, 39 and 44.
+abbrev pub misread : List ℕ
+misread = twoTypes (home 1 ∷ cast 0 2 ∷ read 1 ∷ literal 1 ∷ expr 16 2 3 ∷ expr 16 3 2 ∷ sum 0 2 ∷ []) (skip ∷ [])

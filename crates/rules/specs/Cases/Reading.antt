@@ -6,12 +6,12 @@ use Rattle.rules.specs.Shape.{typeOf, shape}
 use Rattle.rules.specs.Kinds.{same, converts, kinds}
 use Rattle.rules.specs.Run.{andThen, ruled, enter, afterwards}
 use Rattle.rules.specs.Calls.{formed, judged, checking, inferable, runnable, running}
-use Rattle.rules.specs.Cases.Files.{half, typeRow, homeRow, expr, literal, home, cast, null, sum, read, command, skip, store, startRow, ifRow, sect, file, oneType, tray, disc, flagged, crowded, third, second, operand, nested, ints}
+use Rattle.rules.specs.Cases.Files.{half, typeRow, homeRow, expr, literal, home, cast, null, sum, read, command, skip, store, startRow, ifRow, sect, file, oneType, tray, disc, flagged, crowded, third, second, operand, ints, nested}
 use Rattle.rules.specs.Cases.Rows.{three, nil, ends, starves, formedAt, malformed, accepted, inferred, ranOn, ran, Row}
 
 -- Start values (RULES 1.10, 5.11).
 abbrev pub startRows : List Row
-unfolding formed judged checking inferable runnable running rowGood rows section cells sections fifth reading rising typeOf shape kinds same converts andThen ruled enter afterwards
+unfolding formed judged inferable runnable running rowGood rows section cells sections fifth reading rising typeOf shape kinds same converts andThen ruled enter afterwards
 startRows =
     inferred (tray []) (0 ∷ []) refl
     ∷ ran (tray []) (0 ∷ []) (ends 6) (three 1 0 0) refl
@@ -40,7 +40,7 @@ startRows =
 
 -- A count: whole (1), then its limit (2), then its rows, each whole (1) before its fields are judged (3); bytes behind them (4).
 abbrev pub counts : List Row
-unfolding formed judged checking inferable runnable running rowGood rows section cells sections fifth reading rising typeOf shape kinds same converts andThen ruled enter afterwards
+unfolding formed rowGood rows section cells sections fifth reading rising typeOf shape
 counts =
     malformed [] 1 0 refl
     ∷ malformed (0 ∷ []) 1 0 refl
@@ -72,7 +72,7 @@ counts =
 
 -- The fields of types and homes (3), and how many cells there are (5).
 abbrev pub sizes : List Row
-unfolding formed judged checking inferable runnable running rowGood rows section cells sections fifth reading rising typeOf shape kinds same converts andThen ruled enter afterwards
+unfolding formed rowGood rows section cells sections fifth reading rising typeOf shape
 sizes =
     malformed (file (typeRow 1 ∷ []) [] [] (skip ∷ [])) 3 2 refl
     ∷ malformed (file (typeRow 0 ∷ typeRow 2 ∷ []) [] [] (skip ∷ [])) 3 4 refl
@@ -90,7 +90,7 @@ sizes =
 
 -- The fields of expressions: two types, one home, row 2.
 abbrev pub exprRows : List Row
-unfolding formed judged checking inferable runnable running rowGood rows section cells sections fifth reading rising typeOf shape kinds same converts andThen ruled enter afterwards
+unfolding formed judged checking rowGood rows section cells sections fifth reading rising typeOf shape kinds same converts
 exprRows =
     malformed (third (home 0)) 3 24 refl
     ∷ malformed (third (home 2)) 3 24 refl
@@ -124,7 +124,7 @@ exprRows =
 
 -- The fields of commands: two expressions, row 1.
 abbrev pub commandRows : List Row
-unfolding formed judged checking inferable runnable running rowGood rows section cells sections fifth reading rising typeOf shape kinds same converts andThen ruled enter afterwards
+unfolding formed judged checking rowGood rows section cells sections fifth reading rising typeOf shape kinds same converts
 commandRows =
     malformed (second (command 0 1 0 0)) 3 31 refl
     ∷ malformed (second (command 0 0 1 0)) 3 31 refl
@@ -151,7 +151,7 @@ commandRows =
 
 -- Ints and references (6), after 10, over expressions, commands, start values.
 abbrev pub shapes : List Row
-unfolding formed judged checking inferable runnable running rowGood rows section cells sections fifth reading rising typeOf shape kinds same converts andThen ruled enter afterwards
+unfolding formed judged checking rowGood rows section cells sections fifth reading rising typeOf shape kinds same converts
 shapes =
     malformed (operand (sum 1 1 ∷ [])) 6 22 refl
     ∷ malformed (operand (sum 0 0 ∷ [])) 6 22 refl

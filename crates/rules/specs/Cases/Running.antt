@@ -7,33 +7,33 @@ use Rattle.rules.specs.Shape.{typeOf, shape}
 use Rattle.rules.specs.Kinds.{same, converts, kinds}
 use Rattle.rules.specs.Ruled.{check1, check4}
 use Rattle.rules.specs.Run.{andThen, ruled, enter, afterwards}
-use Rattle.rules.specs.Calls.{formed, judged, checking, inferable, runnable, running}
+use Rattle.rules.specs.Calls.{formed, judged, inferable, runnable, running}
 use Rattle.rules.specs.declared.ReadAnswer.the-variants as reads
 use Rattle.rules.specs.declared.CheckAnswer.the-variants as checks
 use Rattle.rules.specs.declared.InferAnswer.the-variants as infers
 use Rattle.rules.specs.declared.Outcome.the-variants.{Done, Fuel, Check}
 use Rattle.rules.specs.declared.RunAnswer.the-variants as runs
-use Rattle.rules.specs.Cases.Files.{expr, literal, home, cast, null, sum, read, command, skip, store, oneType, case1, counting, nested, narrowed, branches}
+use Rattle.rules.specs.Cases.Files.{literal, home, null, read, command, skip, store, oneType, case1, counting, selfStore, nested, nestedTypes, pointed, followed, narrowed, branches, twoStops}
 use Rattle.rules.specs.Cases.Rows.{three, zeros, nil, ends, starves, fails, inferred, ranOn, ran, failing, readSaid, checkSaid, inferSaid, runSaid, Row}
 
 -- Stored values: converted to the target type, and in a DYNAMIC int cell a pair of home 0 (RULES 5.8, 5.10).
 abbrev pub stores : List Row
-unfolding formed judged checking inferable runnable running rowGood rows section cells sections fifth reading rising typeOf shape kinds same converts andThen ruled enter afterwards
+unfolding formed judged inferable runnable running rowGood rows section cells sections fifth reading rising typeOf shape kinds same converts andThen ruled enter afterwards
 stores =
-    ran (oneType (home 1 ∷ []) (store 0 0 ∷ [])) (0 ∷ []) (ends 3) (three 1 0 0) refl
-    ∷ ran (oneType (home 1 ∷ []) (store 0 0 ∷ [])) (1 ∷ []) (ends 3) (three 1 0 0) refl
-    ∷ ran (oneType (home 1 ∷ []) (store 0 0 ∷ [])) (2 ∷ []) (ends 3) (three 4294967297 nil nil) refl
-    ∷ ran (nested (home 2 ∷ home 1 ∷ []) (store 0 1 ∷ [])) (0 ∷ 0 ∷ []) (ends 3) (0 ∷ 0 ∷ 0 ∷ 1 ∷ 0 ∷ []) refl
-    ∷ ran (nested (home 2 ∷ home 1 ∷ []) (store 0 1 ∷ [])) (0 ∷ 1 ∷ []) (ends 3) (0 ∷ 0 ∷ 0 ∷ 1 ∷ 0 ∷ []) refl
-    ∷ ran (nested (home 2 ∷ home 1 ∷ []) (store 0 1 ∷ [])) (1 ∷ 0 ∷ []) (ends 3) (0 ∷ 0 ∷ 0 ∷ 8589934592 ∷ nil ∷ []) refl
-    ∷ ran (nested (home 2 ∷ home 1 ∷ []) (store 0 1 ∷ [])) (1 ∷ 1 ∷ []) (ends 3) (0 ∷ 0 ∷ 0 ∷ 8589934592 ∷ nil ∷ []) refl
-    ∷ ran (nested (home 2 ∷ home 1 ∷ []) (store 0 1 ∷ [])) (2 ∷ 0 ∷ []) (ends 3) (nil ∷ nil ∷ nil ∷ 8589934592 ∷ nil ∷ []) refl
-    ∷ ran (nested (home 2 ∷ home 1 ∷ []) (store 0 1 ∷ [])) (2 ∷ 1 ∷ []) (ends 3) (nil ∷ nil ∷ nil ∷ 8589934592 ∷ nil ∷ []) refl
-    ∷ ran (nested (home 2 ∷ home 1 ∷ []) (store 0 1 ∷ [])) (2 ∷ 2 ∷ []) (ends 3) (nil ∷ nil ∷ nil ∷ 8589934592 ∷ nil ∷ []) refl
+    ran selfStore (0 ∷ []) (ends 3) (three 1 0 0) refl
+    ∷ ran selfStore (1 ∷ []) (ends 3) (three 1 0 0) refl
+    ∷ ran selfStore (2 ∷ []) (ends 3) (three 4294967297 nil nil) refl
+    ∷ ran pointed (0 ∷ 0 ∷ []) (ends 3) (0 ∷ 0 ∷ 0 ∷ 1 ∷ 0 ∷ []) refl
+    ∷ ran pointed (0 ∷ 1 ∷ []) (ends 3) (0 ∷ 0 ∷ 0 ∷ 1 ∷ 0 ∷ []) refl
+    ∷ ran pointed (1 ∷ 0 ∷ []) (ends 3) (0 ∷ 0 ∷ 0 ∷ 8589934592 ∷ nil ∷ []) refl
+    ∷ ran pointed (1 ∷ 1 ∷ []) (ends 3) (0 ∷ 0 ∷ 0 ∷ 8589934592 ∷ nil ∷ []) refl
+    ∷ ran pointed (2 ∷ 0 ∷ []) (ends 3) (nil ∷ nil ∷ nil ∷ 8589934592 ∷ nil ∷ []) refl
+    ∷ ran pointed (2 ∷ 1 ∷ []) (ends 3) (nil ∷ nil ∷ nil ∷ 8589934592 ∷ nil ∷ []) refl
+    ∷ ran pointed (2 ∷ 2 ∷ []) (ends 3) (nil ∷ nil ∷ nil ∷ 8589934592 ∷ nil ∷ []) refl
     ∷ ran (nested (home 2 ∷ home 1 ∷ read 0 ∷ literal 6 ∷ []) (store 0 1 ∷ store 2 3 ∷ command 1 0 1 0 ∷ [])) (0 ∷ 0 ∷ []) (ends 8) (6 ∷ 0 ∷ 0 ∷ 1 ∷ 0 ∷ []) refl
-    ∷ inferred (nested (home 2 ∷ home 1 ∷ literal 2 ∷ sum 1 2 ∷ read 0 ∷ literal 6 ∷ []) (store 0 3 ∷ store 4 5 ∷ command 1 0 1 0 ∷ [])) (1 ∷ 0 ∷ []) refl
-    ∷ ran (nested (home 2 ∷ home 1 ∷ literal 2 ∷ sum 1 2 ∷ read 0 ∷ literal 6 ∷ []) (store 0 3 ∷ store 4 5 ∷ command 1 0 1 0 ∷ [])) (1 ∷ 0 ∷ []) (ends 10) (0 ∷ 0 ∷ 6 ∷ 8589934594 ∷ nil ∷ []) refl
-    ∷ ran (nested (home 2 ∷ home 1 ∷ literal 2 ∷ sum 1 2 ∷ read 0 ∷ literal 6 ∷ []) (store 0 3 ∷ store 4 5 ∷ command 1 0 1 0 ∷ [])) (2 ∷ 2 ∷ []) (ends 10) (nil ∷ nil ∷ 4294967302 ∷ 8589934594 ∷ nil ∷ []) refl
+    ∷ inferred followed (1 ∷ 0 ∷ []) refl
+    ∷ ran followed (1 ∷ 0 ∷ []) (ends 10) (0 ∷ 0 ∷ 6 ∷ 8589934594 ∷ nil ∷ []) refl
+    ∷ ran followed (2 ∷ 2 ∷ []) (ends 10) (nil ∷ nil ∷ 4294967302 ∷ 8589934594 ∷ nil ∷ []) refl
     ∷ inferred (narrowed 3) (1 ∷ 0 ∷ 0 ∷ []) refl
     ∷ ran (narrowed 2) (1 ∷ 0 ∷ 0 ∷ []) (ends 5) (0 ∷ 0 ∷ 0 ∷ 3 ∷ 9 ∷ []) refl
     ∷ ran (narrowed 3) (1 ∷ 0 ∷ 0 ∷ []) (fails 2 42 5) (0 ∷ 0 ∷ 0 ∷ 0 ∷ 9 ∷ []) refl
@@ -41,20 +41,20 @@ stores =
 
 -- The starting memory by the kinds of home and cell (RULES 5.11), also with no fuel.
 abbrev pub fresh : List Row
-unfolding formed judged checking inferable runnable running rowGood rows section cells sections fifth reading rising typeOf shape kinds same converts andThen ruled enter afterwards
+unfolding formed judged runnable running rowGood rows section cells sections fifth reading rising typeOf shape kinds same converts andThen ruled enter afterwards
 fresh =
-    ranOn 0 (nested [] (skip ∷ [])) (0 ∷ 0 ∷ []) (starves 20 0) (0 ∷ 0 ∷ 0 ∷ 0 ∷ 0 ∷ []) refl
-    ∷ ranOn 0 (nested [] (skip ∷ [])) (0 ∷ 1 ∷ []) (starves 20 0) (0 ∷ 0 ∷ 0 ∷ 0 ∷ 0 ∷ []) refl
-    ∷ ranOn 0 (nested [] (skip ∷ [])) (1 ∷ 0 ∷ []) (starves 20 0) (0 ∷ 0 ∷ 0 ∷ nil ∷ nil ∷ []) refl
-    ∷ ranOn 0 (nested [] (skip ∷ [])) (1 ∷ 1 ∷ []) (starves 20 0) (0 ∷ 0 ∷ 0 ∷ nil ∷ nil ∷ []) refl
-    ∷ ranOn 0 (nested [] (skip ∷ [])) (2 ∷ 0 ∷ []) (starves 20 0) (nil ∷ nil ∷ nil ∷ nil ∷ nil ∷ []) refl
-    ∷ ranOn 0 (nested [] (skip ∷ [])) (2 ∷ 1 ∷ []) (starves 20 0) (nil ∷ nil ∷ nil ∷ nil ∷ nil ∷ []) refl
-    ∷ ranOn 0 (nested [] (skip ∷ [])) (2 ∷ 2 ∷ []) (starves 20 0) (nil ∷ nil ∷ nil ∷ nil ∷ nil ∷ []) refl
+    ranOn 0 nestedTypes (0 ∷ 0 ∷ []) (starves 20 0) (0 ∷ 0 ∷ 0 ∷ 0 ∷ 0 ∷ []) refl
+    ∷ ranOn 0 nestedTypes (0 ∷ 1 ∷ []) (starves 20 0) (0 ∷ 0 ∷ 0 ∷ 0 ∷ 0 ∷ []) refl
+    ∷ ranOn 0 nestedTypes (1 ∷ 0 ∷ []) (starves 20 0) (0 ∷ 0 ∷ 0 ∷ nil ∷ nil ∷ []) refl
+    ∷ ranOn 0 nestedTypes (1 ∷ 1 ∷ []) (starves 20 0) (0 ∷ 0 ∷ 0 ∷ nil ∷ nil ∷ []) refl
+    ∷ ranOn 0 nestedTypes (2 ∷ 0 ∷ []) (starves 20 0) (nil ∷ nil ∷ nil ∷ nil ∷ nil ∷ []) refl
+    ∷ ranOn 0 nestedTypes (2 ∷ 1 ∷ []) (starves 20 0) (nil ∷ nil ∷ nil ∷ nil ∷ nil ∷ []) refl
+    ∷ ranOn 0 nestedTypes (2 ∷ 2 ∷ []) (starves 20 0) (nil ∷ nil ∷ nil ∷ nil ∷ nil ∷ []) refl
     ∷ []
 
 -- Commands and their order (RULES 6): which check, how many units, and what the memory keeps.
 abbrev pub flow : List Row
-unfolding formed judged checking inferable runnable running rowGood rows section cells sections fifth reading rising typeOf shape kinds same converts andThen ruled enter afterwards
+unfolding formed judged runnable running rowGood rows section cells sections fifth reading rising typeOf shape kinds same converts andThen ruled enter afterwards
 flow =
     ran (branches 1) (0 ∷ []) (ends 5) (three 7 0 0) refl
     ∷ ran (branches 65536) (0 ∷ []) (ends 5) (three 7 0 0) refl
@@ -70,15 +70,14 @@ flow =
     ∷ ranOn 1 (counting 4) (0 ∷ []) (starves 27 1) zeros refl
     ∷ ranOn 11 (counting 4) (0 ∷ []) (starves 51 11) (three 1 0 0) refl
     ∷ ranOn 12 (counting 4) (0 ∷ []) (starves 27 12) (three 1 0 0) refl
-    ∷ failing (nested (null 2 ∷ read 0 ∷ literal 0 ∷ expr 19 2 2 ∷ sum 1 3 ∷ cast 1 0 ∷ expr 16 5 3 ∷ expr 16 3 5 ∷ []) (skip ∷ [])) (1 ∷ 0 ∷ []) 4 3 check1 23 refl
-    ∷ failing (nested (null 2 ∷ read 0 ∷ literal 0 ∷ expr 19 2 2 ∷ sum 1 3 ∷ cast 1 0 ∷ expr 16 5 3 ∷ expr 16 3 5 ∷ []) (skip ∷ [])) (1 ∷ 0 ∷ []) 6 4 check1 23 refl
-    ∷ failing (nested (null 2 ∷ read 0 ∷ literal 0 ∷ expr 19 2 2 ∷ sum 1 3 ∷ cast 1 0 ∷ expr 16 5 3 ∷ expr 16 3 5 ∷ []) (skip ∷ [])) (1 ∷ 0 ∷ []) 7 4 check4 33 refl
+    ∷ failing twoStops (1 ∷ 0 ∷ []) 4 3 check1 23 refl
+    ∷ failing twoStops (1 ∷ 0 ∷ []) 6 4 check1 23 refl
+    ∷ failing twoStops (1 ∷ 0 ∷ []) 7 4 check4 33 refl
     ∷ ran (oneType (null 1 ∷ read 0 ∷ literal 7 ∷ []) (store 0 1 ∷ [])) (0 ∷ []) (fails 1 29 2) zeros refl
     ∷ []
 
 -- What the answers of the code say (RULES 2.1, 6.4).
 abbrev pub answers : List Row
-unfolding formed judged checking inferable runnable running rowGood rows section cells sections fifth reading rising typeOf shape kinds same converts andThen ruled enter afterwards
 answers =
     readSaid (reads.WellFormed (record { types = 0; homes = 4; exprs = 10; commands = 22; values = 31 })) (fine (record { types = 0; homes = 4; exprs = 10; commands = 22; values = 31 })) refl
     ∷ readSaid (reads.Refused (record { number = 6; place = 22 })) (refused 6 22) refl

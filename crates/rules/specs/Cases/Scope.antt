@@ -7,13 +7,13 @@ use Rattle.rules.specs.Reading.{rowGood, rows, section, cells, sections,
 use Rattle.rules.specs.Shape.{typeOf, shape}
 use Rattle.rules.specs.Kinds.{same, converts, kinds}
 use Rattle.rules.specs.Run.{andThen, ruled, enter, afterwards}
-use Rattle.rules.specs.Calls.{formed, judged, checking, inferable, runnable, running}
+use Rattle.rules.specs.Calls.{formed, judged, inferable, runnable, running}
 use Rattle.rules.specs.Cases.Files.{case1, case2, case4, case5, case6, case7, case8, case9, case11, case12, counting}
 use Rattle.rules.specs.Cases.Rows.{lent, three, zeros, nil, ends, starves, fails, inferred, ranOn, ran, valued, Row}
 
 -- The twelve cases of the scope, with their inferred markings, and a while.
 abbrev pub scope : List Row
-unfolding formed judged checking inferable runnable running rowGood rows section cells sections fifth reading rising typeOf shape kinds same converts andThen ruled enter afterwards
+unfolding formed judged inferable runnable running rowGood rows section cells sections fifth reading rising typeOf shape kinds same converts andThen ruled enter afterwards
 scope =
     inferred case1 (0 ∷ []) refl
     ∷ ran case1 (0 ∷ []) (ends 3) (three 7 0 0) refl
