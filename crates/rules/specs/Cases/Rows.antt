@@ -13,23 +13,33 @@ use Rattle.rules.specs.declared.RunAnswer.{RunAnswer}
 use Rattle.rules.specs.Basic.{Verdict, fine, refused}
 use Rattle.rules.specs.Table.{routine}
 use Rattle.rules.specs.Ruled.{Check}
-use Rattle.rules.specs.Run.{Answer, got, stopped, failed, noRule, eval, start}
-use Rattle.rules.specs.Calls.{formed, checking, inferable, Inferred, left, running, Ended, Left, finished, outOfFuel, failedCheck, readSays, checkSays, inferSays, runSays}
+use Rattle.rules.specs.Steps.{Step}
+use Rattle.rules.specs.Run.{Answer, got, stopped, failed, noRule, eval, start, run}
+use Rattle.rules.specs.Calls.{formed, judged, checking, inferable, Inferred, left, running, Ended, Left, finished, outOfFuel, failedCheck, readSays, checkSays, inferSays, runSays}
 use Rattle.rules.specs.Cases.Least.{leastIn, leaves-least}
 
 -- ---- a case, and what it says
 
--- What a call answers; what an expression row gives in the starting memory, with this fuel, under any marking; what a code's answer says.
+abbrev pub plenty : ℕ
+plenty = 1000000
+
+-- What a call answers; the steps of a run; what an expression row gives in the starting memory, with this fuel, under any marking; what an answer
+-- of the code says.
 pub data Case : Type 0 where
   reads : (file : List ℕ) → Verdict Starts → Case
   checks : (file marking : List ℕ) → Verdict (Unit {0}) → Case
   infers : (file lent : List ℕ) → Left (Unit {0}) → Case
   runs : (file marking : List ℕ) (fuel : ℕ) (lent : List ℕ) → Left Ended → Case
+  takes : (file marking : List ℕ) → List Step → Case
   evaluates : (file marking : List ℕ) (row fuel : ℕ) → Answer → Case
   readSaying : ReadAnswer → Verdict Starts → Case
   checkSaying : CheckAnswer → Verdict (Unit {0}) → Case
   inferSaying : InferAnswer → Verdict (Unit {0}) → Case
   runSaying : RunAnswer → Verdict Ended → Case
+
+abbrev pub steps : Verdict Starts → List ℕ → List ℕ → List Step
+steps (fine at) s m = run (routine s at) m [] plenty .steps
+steps (refused n p) s m = []
 
 abbrev pub evaluated : Verdict Starts → List ℕ → List ℕ → ℕ → ℕ → Answer
 evaluated (fine at) s m e f = let r = routine s at in eval r m (start r m []) e f .answer
@@ -40,6 +50,7 @@ Holds (reads s v) = formed s ≡ v
 Holds (checks s m v) = checking s m ≡ v
 Holds (infers s l x) = Inferred s l x
 Holds (runs s m f l x) = running s m f l ≡ x
+Holds (takes s m l) = steps (judged s m) s m ≡ l
 Holds (evaluates s m e f x) = evaluated (formed s) s m e f ≡ x
 Holds (readSaying x v) = readSays x ≡ v
 Holds (checkSaying x v) = checkSays x ≡ v
@@ -69,9 +80,6 @@ nil = 4294967296
 
 abbrev pub nils : List ℕ
 nils = three nil nil nil
-
-abbrev pub plenty : ℕ
-plenty = 1000000
 
 -- A run is done, out of fuel, or stopped by a check; and its units.
 abbrev pub ends : ℕ → Verdict Ended
@@ -120,6 +128,10 @@ ranOn fuel s m answer z p = ranIn fuel lent s m answer z p
 
 abbrev pub ran : (s m : List ℕ) (answer : Verdict Ended) (z : List ℕ) → running s m plenty lent ≡ record { answer = answer; lent = z } → Row
 ran s m answer z p = ranIn plenty lent s m answer z p
+
+-- The steps of a run with plenty of fuel.
+abbrev pub told : (s m : List ℕ) (l : List Step) → steps (judged s m) s m ≡ l → Row
+told s m l p = record { case = takes s m l; holds = p }
 
 -- Row e, for exactly so many units: its value; the check that fails, with its place; no rule for the row at a place.
 abbrev pub valued : (s m : List ℕ) (e units : ℕ) (v : Value) → evaluated (formed s) s m e units ≡ got v 0 → Row

@@ -1,11 +1,13 @@
 -- Cases of commands: stores, the starting memory, order and units (RULES 6).
 use mathlib.Core.Path.{refl}
 use mathlib.Core.List.{List, [], _∷_}
+use Rattle.rules.specs.declared.Value.the-variants.{Number, Pair}
 use Rattle.rules.specs.Basic.{fine, refused}
 use Rattle.rules.specs.Reading.{rowGood, rows, section, cells, sections, fifth, reading, rising}
 use Rattle.rules.specs.Shape.{typeOf, shape}
 use Rattle.rules.specs.Kinds.{same, converts, kinds}
 use Rattle.rules.specs.Ruled.{check1, check4}
+use Rattle.rules.specs.Steps.{entered, stored}
 use Rattle.rules.specs.Run.{andThen, ruled, enter, afterwards}
 use Rattle.rules.specs.Calls.{formed, judged, inferable, runnable, running}
 use Rattle.rules.specs.declared.ReadAnswer.the-variants as reads
@@ -14,7 +16,7 @@ use Rattle.rules.specs.declared.InferAnswer.the-variants as infers
 use Rattle.rules.specs.declared.Outcome.the-variants.{Done, Fuel, Check}
 use Rattle.rules.specs.declared.RunAnswer.the-variants as runs
 use Rattle.rules.specs.Cases.Files.{literal, home, null, read, command, skip, store, oneType, case1, counting, selfStore, nested, nestedTypes, pointed, followed, narrowed, branches, twoStops}
-use Rattle.rules.specs.Cases.Rows.{three, zeros, nil, ends, starves, fails, inferred, ranOn, ran, failing, readSaid, checkSaid, inferSaid, runSaid, Row}
+use Rattle.rules.specs.Cases.Rows.{three, zeros, nil, ends, starves, fails, inferred, ranOn, ran, told, failing, readSaid, checkSaid, inferSaid, runSaid, Row}
 
 -- Stored values: converted to the target type, and in a DYNAMIC int cell a pair of home 0 (RULES 5.8, 5.10).
 abbrev pub stores : List Row
@@ -74,6 +76,15 @@ flow =
     ∷ failing twoStops (1 ∷ 0 ∷ []) 6 4 check1 23 refl
     ∷ failing twoStops (1 ∷ 0 ∷ []) 7 4 check4 33 refl
     ∷ ran (oneType (null 1 ∷ read 0 ∷ literal 7 ∷ []) (store 0 1 ∷ [])) (0 ∷ []) (fails 1 29 2) zeros refl
+    ∷ []
+
+-- The steps of a run: the rows entered, by place, and the stores (RULES 6.1).
+abbrev pub inOrder : List Row
+unfolding formed judged rowGood rows section cells sections fifth reading rising typeOf shape kinds same converts andThen ruled enter afterwards
+inOrder =
+    told case1 (0 ∷ []) (entered 24 ∷ entered 12 ∷ entered 17 ∷ stored 1 (Number 7) ∷ []) refl
+    ∷ told (counting 1) (0 ∷ []) (entered 51 ∷ entered 27 ∷ entered 17 ∷ entered 12 ∷ entered 22 ∷ entered 44 ∷ entered 12 ∷ entered 37 ∷ entered 17 ∷ entered 12 ∷ entered 32 ∷ stored 1 (Number 1) ∷ entered 51 ∷ entered 27 ∷ entered 17 ∷ entered 12 ∷ entered 22 ∷ []) refl
+    ∷ told followed (2 ∷ 2 ∷ []) (entered 64 ∷ entered 50 ∷ entered 18 ∷ entered 33 ∷ entered 23 ∷ entered 28 ∷ stored 4 (Pair 1 2) ∷ entered 57 ∷ entered 38 ∷ entered 18 ∷ entered 43 ∷ stored 3 (Pair 0 6) ∷ []) refl
     ∷ []
 
 -- What the answers of the code say (RULES 2.1, 6.4).
