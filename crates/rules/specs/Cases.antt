@@ -12,7 +12,7 @@ use Rattle.rules.specs.Cases.Scope.{scope}
 use Rattle.rules.specs.Cases.Reading.{startRows, counts, sizes, exprRows, commandRows, shapes}
 use Rattle.rules.specs.Cases.Kinds.{lengths, conversions, targets, others, firsts, lending, least}
 use Rattle.rules.specs.Cases.Values.{operators, converted, accesses, stuckForms}
-use Rattle.rules.specs.Cases.Running.{stores, fresh, flow, inOrder, answers}
+use Rattle.rules.specs.Cases.Running.{stores, fresh, flow, stuckRuns, inOrder, answers}
 use Rattle.rules.specs.Cases.Rows.{Case, Holds, Row}
 
 abbrev pub table : List Row
@@ -21,7 +21,7 @@ table =
     ++ startRows ++ counts ++ sizes ++ exprRows ++ commandRows ++ shapes
     ++ lengths ++ conversions ++ targets ++ others ++ firsts ++ lending ++ least
     ++ operators ++ converted ++ accesses ++ stuckForms
-    ++ stores ++ fresh ++ flow ++ inOrder ++ answers
+    ++ stores ++ fresh ++ flow ++ stuckRuns ++ inOrder ++ answers
 
 abbrev pub cases : List Case
 cases = map (λ (x : Row). x .case) table

@@ -15,7 +15,7 @@ use Rattle.rules.specs.Table.{routine}
 use Rattle.rules.specs.Ruled.{Check}
 use Rattle.rules.specs.Steps.{Step}
 use Rattle.rules.specs.Run.{Answer, got, stopped, failed, noRule, eval, start, run}
-use Rattle.rules.specs.Calls.{formed, judged, checking, inferable, Inferred, left, running, Ended, Left, finished, outOfFuel, failedCheck, readSays, checkSays, inferSays, runSays}
+use Rattle.rules.specs.Calls.{formed, judged, checking, inferable, Inferred, left, running, Ending, Ended, Left, finished, outOfFuel, failedCheck, stuckAt, endingOf, readSays, checkSays, inferSays, runSays}
 use Rattle.rules.specs.Cases.Least.{leastIn, leaves-least}
 
 -- ---- a case, and what it says
@@ -23,14 +23,15 @@ use Rattle.rules.specs.Cases.Least.{leastIn, leaves-least}
 abbrev pub plenty : ℕ
 plenty = 1000000
 
--- What a call answers; the steps of a run; what an expression row gives in the starting memory, with this fuel, under any marking; what an answer
--- of the code says.
+-- What a call answers; the steps of a run; how the defined run ends, and what an expression row gives in the starting memory with this fuel, under
+-- any marking; what an answer of the code says.
 pub data Case : Type 0 where
   reads : (file : List ℕ) → Verdict Starts → Case
   checks : (file marking : List ℕ) → Verdict (Unit {0}) → Case
   infers : (file lent : List ℕ) → Left (Unit {0}) → Case
   runs : (file marking : List ℕ) (fuel : ℕ) (lent : List ℕ) → Left Ended → Case
   takes : (file marking : List ℕ) → List Step → Case
+  goes : (file marking : List ℕ) → Ending → Case
   evaluates : (file marking : List ℕ) (row fuel : ℕ) → Answer → Case
   readSaying : ReadAnswer → Verdict Starts → Case
   checkSaying : CheckAnswer → Verdict (Unit {0}) → Case
@@ -40,6 +41,10 @@ pub data Case : Type 0 where
 abbrev pub steps : Verdict Starts → List ℕ → List ℕ → List Step
 steps (fine at) s m = run (routine s at) m [] plenty .steps
 steps (refused n p) s m = []
+
+abbrev pub ending : Verdict Starts → List ℕ → List ℕ → Ending
+ending (fine at) s m = endingOf (run (routine s at) m [] plenty .answer)
+ending (refused n p) s m = finished
 
 abbrev pub evaluated : Verdict Starts → List ℕ → List ℕ → ℕ → ℕ → Answer
 evaluated (fine at) s m e f = let r = routine s at in eval r m (start r m []) e f .answer
@@ -51,6 +56,7 @@ Holds (checks s m v) = checking s m ≡ v
 Holds (infers s l x) = Inferred s l x
 Holds (runs s m f l x) = running s m f l ≡ x
 Holds (takes s m l) = steps (judged s m) s m ≡ l
+Holds (goes s m x) = ending (formed s) s m ≡ x
 Holds (evaluates s m e f x) = evaluated (formed s) s m e f ≡ x
 Holds (readSaying x v) = readSays x ≡ v
 Holds (checkSaying x v) = checkSays x ≡ v
@@ -132,6 +138,10 @@ ran s m answer z p = ranIn plenty lent s m answer z p
 -- The steps of a run with plenty of fuel.
 abbrev pub told : (s m : List ℕ) (l : List Step) → steps (judged s m) s m ≡ l → Row
 told s m l p = record { case = takes s m l; holds = p }
+
+-- A run that no rule lets go on, at the row at this place.
+abbrev pub stuckIn : (s m : List ℕ) (place : ℕ) → ending (formed s) s m ≡ stuckAt place → Row
+stuckIn s m place p = record { case = goes s m _; holds = p }
 
 -- Row e, for exactly so many units: its value; the check that fails, with its place; no rule for the row at a place.
 abbrev pub valued : (s m : List ℕ) (e units : ℕ) (v : Value) → evaluated (formed s) s m e units ≡ got v 0 → Row

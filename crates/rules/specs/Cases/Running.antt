@@ -15,8 +15,8 @@ use Rattle.rules.specs.declared.CheckAnswer.the-variants as checks
 use Rattle.rules.specs.declared.InferAnswer.the-variants as infers
 use Rattle.rules.specs.declared.Outcome.the-variants.{Done, Fuel, Check}
 use Rattle.rules.specs.declared.RunAnswer.the-variants as runs
-use Rattle.rules.specs.Cases.Files.{literal, home, null, read, command, skip, store, oneType, case1, counting, selfStore, nested, nestedTypes, pointed, followed, narrowed, branches, twoStops}
-use Rattle.rules.specs.Cases.Rows.{three, zeros, nil, ends, starves, fails, inferred, ranOn, ran, told, failing, readSaid, checkSaid, inferSaid, runSaid, Row}
+use Rattle.rules.specs.Cases.Files.{literal, home, cast, null, read, command, skip, store, ifRow, oneType, twoTypes, case1, counting, selfStore, nested, nestedTypes, pointed, followed, narrowed, branches, twoStops}
+use Rattle.rules.specs.Cases.Rows.{three, zeros, nil, ends, starves, fails, inferred, ranOn, ran, told, stuckIn, failing, readSaid, checkSaid, inferSaid, runSaid, Row}
 
 -- Stored values: converted to the target type, and in a DYNAMIC int cell a pair of home 0 (RULES 5.8, 5.10).
 abbrev pub stores : List Row
@@ -76,6 +76,15 @@ flow =
     ∷ failing twoStops (1 ∷ 0 ∷ []) 6 4 check1 23 refl
     ∷ failing twoStops (1 ∷ 0 ∷ []) 7 4 check4 33 refl
     ∷ ran (oneType (null 1 ∷ read 0 ∷ literal 7 ∷ []) (store 0 1 ∷ [])) (0 ∷ []) (fails 1 29 2) zeros refl
+    ∷ []
+
+-- Commands that no rule covers: a pair as a condition, and a store by a pair through SAFE (RULES 5.9).
+abbrev pub stuckRuns : List Row
+unfolding formed rowGood rows section cells sections fifth reading rising typeOf shape andThen ruled enter afterwards
+stuckRuns =
+    stuckIn (twoTypes (home 1 ∷ cast 0 2 ∷ read 1 ∷ []) (skip ∷ ifRow 2 0 ∷ [])) (2 ∷ 0 ∷ []) 38 refl
+    ∷ stuckIn (twoTypes (home 1 ∷ cast 0 2 ∷ read 1 ∷ []) (skip ∷ command 4 2 0 0 ∷ [])) (2 ∷ 0 ∷ []) 38 refl
+    ∷ stuckIn (nested (home 2 ∷ read 0 ∷ literal 7 ∷ []) (store 1 2 ∷ [])) (0 ∷ 2 ∷ []) 35 refl
     ∷ []
 
 -- The steps of a run: the rows entered, by place, and the stores (RULES 6.1).
