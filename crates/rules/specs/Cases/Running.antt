@@ -7,7 +7,7 @@ use Rattle.rules.specs.Reading.{rowGood, rows, section, cells, sections,
 use Rattle.rules.specs.Shape.{typeOf, shape}
 use Rattle.rules.specs.Kinds.{same, converts, kinds}
 use Rattle.rules.specs.Ruled.{check1, check4}
-use Rattle.rules.specs.Steps.{entered, stored}
+use Rattle.rules.specs.Steps.{entered, looked, stored}
 use Rattle.rules.specs.Run.{andThen, ruled, enter, afterwards}
 use Rattle.rules.specs.Calls.{formed, judged, inferable, runnable, running}
 use Rattle.rules.specs.declared.ReadAnswer.the-variants as reads
@@ -87,13 +87,13 @@ stuckRuns =
     ∷ stuckIn (nested (home 2 ∷ read 0 ∷ literal 7 ∷ []) (store 1 2 ∷ [])) (0 ∷ 2 ∷ []) 35 refl
     ∷ []
 
--- The steps of a run: the rows entered, by place, and the stores (RULES 6.1).
+-- The steps of a run: the rows entered, by place, the cells read and the stores (RULES 6.1).
 abbrev pub inOrder : List Row
 unfolding formed judged rowGood rows section cells sections fifth reading rising typeOf shape kinds same converts andThen ruled enter afterwards
 inOrder =
-    told case1 (0 ∷ []) (entered 24 ∷ entered 12 ∷ entered 17 ∷ stored 1 (Number 7) ∷ []) refl
-    ∷ told (counting 1) (0 ∷ []) (entered 51 ∷ entered 27 ∷ entered 17 ∷ entered 12 ∷ entered 22 ∷ entered 44 ∷ entered 12 ∷ entered 37 ∷ entered 17 ∷ entered 12 ∷ entered 32 ∷ stored 1 (Number 1) ∷ entered 51 ∷ entered 27 ∷ entered 17 ∷ entered 12 ∷ entered 22 ∷ []) refl
-    ∷ told followed (2 ∷ 2 ∷ []) (entered 64 ∷ entered 50 ∷ entered 18 ∷ entered 33 ∷ entered 23 ∷ entered 28 ∷ stored 4 (Pair 1 2) ∷ entered 57 ∷ entered 38 ∷ entered 18 ∷ entered 43 ∷ stored 3 (Pair 0 6) ∷ []) refl
+    told case1 (0 ∷ []) (entered 24 ∷ entered 12 ∷ entered 17 ∷ stored 24 (Number 1) 1 (Number 7) ∷ []) refl
+    ∷ told (counting 1) (0 ∷ []) (entered 51 ∷ entered 27 ∷ entered 17 ∷ entered 12 ∷ looked 17 (Number 1) 1 ∷ entered 22 ∷ entered 44 ∷ entered 12 ∷ entered 37 ∷ entered 17 ∷ entered 12 ∷ looked 17 (Number 1) 1 ∷ entered 32 ∷ stored 44 (Number 1) 1 (Number 1) ∷ entered 51 ∷ entered 27 ∷ entered 17 ∷ entered 12 ∷ looked 17 (Number 1) 1 ∷ entered 22 ∷ []) refl
+    ∷ told followed (2 ∷ 2 ∷ []) (entered 64 ∷ entered 50 ∷ entered 18 ∷ entered 33 ∷ entered 23 ∷ entered 28 ∷ stored 50 (Pair 2 0) 4 (Pair 1 2) ∷ entered 57 ∷ entered 38 ∷ entered 18 ∷ looked 38 (Pair 2 0) 4 ∷ entered 43 ∷ stored 57 (Pair 1 2) 3 (Pair 0 6) ∷ []) refl
     ∷ []
 
 -- What the answers of the code say (RULES 2.1, 6.4).
