@@ -141,12 +141,12 @@ pub fn reach_dynamic(t: &[u64; WORDS], v: Value) -> Found
 {
     match v {
         Value::Number(_) => Found::Fails(3),
-        Value::Pair(g, n) => {
+        Value::Pair(g, o) => {
             if g == 0 {
                 return Found::Fails(3);
             }
-            if n < size_of(t, g) {
-                return Found::Is(std::num::wrapping_add_u32(start_of(t, g), n));
+            if o < size_of(t, g) {
+                return Found::Is(std::num::wrapping_add_u32(start_of(t, g), o));
             }
             Found::Fails(2)
         }
@@ -208,7 +208,7 @@ fn over(m: u32, n: u32) -> Found
     ensures { λ r. ⌜ r ≡ foundOf (applied over m n) ⌝ }
 {
     if n == 0 {
-        return Found::Fails(4);
+        return Found::Fails(4); // no quotient
     }
     Found::Is(m / n)
 }
@@ -217,7 +217,7 @@ fn rest(m: u32, n: u32) -> Found
     ensures { λ r. ⌜ r ≡ foundOf (applied rest m n) ⌝ }
 {
     if n == 0 {
-        return Found::Fails(4);
+        return Found::Fails(4); // no rest
     }
     Found::Is(m % n)
 }
