@@ -13,7 +13,10 @@ element-copy-out-target : tie.Need-element-copy-out-target
 element-copy-out-target c = search needs
 
 cast-target : tie.Need-cast-target
-cast-target c = omega (arith, target-in (c .before .before .pre))
+cast-target c = omega (arith, target-in (c .before .before .pre), c .before .before .pre .tables .size, c .before .before .pre .tables .few)
+
+cast-kind-of : tie.Need-cast-kind-of
+cast-kind-of c = omega (arith, c .before .before .pre .last, c .before .before .pre .tables .few)
 
 kind-of-requires : tie.Need-kind-of-requires
 kind-of-requires c κs = search needs
@@ -33,6 +36,7 @@ type-ok-spec =
     (tie.spec
     element-copy-out-target
     cast-target
+    cast-kind-of
     kind-of-requires
     kind-of-requires-2
     spreads-requires
