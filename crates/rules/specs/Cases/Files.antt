@@ -166,6 +166,10 @@ unevenCast = file (typeRow 0 ∷ typeRow 1 ∷ []) [] (null 1 ∷ cast 0 2 ∷ [
 abbrev pub mixedCast : ℕ → ℕ → List ℕ
 mixedCast from to = file (typeRow 0 ∷ typeRow 1 ∷ typeRow 0 ∷ []) [] (null from ∷ cast 0 to ∷ []) (skip ∷ [])
 
+-- T2 is ref T1, T3 is ref T2, and T4 is ref int as T1 is. A null of T3 is cast to T4, at 19.
+abbrev pub unlikeCast : List ℕ
+unlikeCast = file (typeRow 0 ∷ typeRow 1 ∷ typeRow 2 ∷ typeRow 0 ∷ []) [] (null 3 ∷ cast 0 4 ∷ []) (skip ∷ [])
+
 -- T2 is ref t, T3 is ref T1 and T4 is ref T2. A null of T3 is cast to T4, at 19.
 abbrev pub recast : ℕ → List ℕ
 recast t = file (typeRow 0 ∷ typeRow t ∷ typeRow 1 ∷ typeRow 2 ∷ []) [] (null 3 ∷ cast 0 4 ∷ []) (skip ∷ [])

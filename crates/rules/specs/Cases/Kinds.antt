@@ -7,7 +7,7 @@ use Rattle.rules.specs.Shape.{typeOf, shape}
 use Rattle.rules.specs.Kinds.{same, converts, kinds}
 use Rattle.rules.specs.Run.{andThen, ruled, enter, afterwards}
 use Rattle.rules.specs.Calls.{formed, judged, checking, inferable, runnable, running}
-use Rattle.rules.specs.Cases.Files.{typeRow, literal, home, cast, null, sum, skip, store, file, case1, case4, case11, unused, operand, idle, intCast, pairCast, unevenCast, mixedCast, recast, deepCast, nested, nestedTypes}
+use Rattle.rules.specs.Cases.Files.{typeRow, literal, home, cast, null, sum, skip, store, file, case1, case4, case11, unused, operand, idle, intCast, pairCast, unevenCast, mixedCast, unlikeCast, recast, deepCast, nested, nestedTypes}
 use Rattle.rules.specs.Cases.Rows.{plenty, ends, accepted, rejected, inferredIn, inferred, notInferred, ranIn, Row}
 
 -- The marking: its length and its bytes (7), after 6 and before 8.
@@ -75,6 +75,8 @@ targets =
     ∷ rejected (mixedCast 3 2) (0 ∷ 0 ∷ 0 ∷ []) 8 17 refl
     ∷ rejected (mixedCast 3 2) (1 ∷ 0 ∷ 0 ∷ []) 8 17 refl
     ∷ rejected (mixedCast 3 2) (2 ∷ 0 ∷ 0 ∷ []) 8 17 refl
+    ∷ rejected unlikeCast (0 ∷ 0 ∷ 0 ∷ 0 ∷ []) 8 19 refl
+    ∷ rejected unlikeCast (0 ∷ 1 ∷ 0 ∷ 0 ∷ []) 8 19 refl
     ∷ accepted deepCast (0 ∷ 0 ∷ 0 ∷ 0 ∷ 0 ∷ 0 ∷ []) refl
     ∷ accepted deepCast (1 ∷ 1 ∷ 0 ∷ 0 ∷ 1 ∷ 0 ∷ []) refl
     ∷ accepted deepCast (2 ∷ 2 ∷ 2 ∷ 2 ∷ 0 ∷ 0 ∷ []) refl
