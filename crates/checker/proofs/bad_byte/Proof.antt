@@ -16,31 +16,24 @@ Inv-loop marking i₀ i = (i ≤ length marking) × Passed (λ j. leb (getD mark
 abbrev μ-loop : tie.MeasureT-loop
 μ-loop marking i₀ i = length marking - i
 
--- src/lib.rt:101:5
 loop-holds : tie.Need-loop-holds Inv-loop μ-loop
 loop-holds c = (omega arith, passed-none _)
 
--- src/lib.rt:102:16
 shared-slice-read-if1 : tie.Need-shared-slice-read-if1 Inv-loop μ-loop
 shared-slice-read-if1 c = omega arith
 
--- src/lib.rt:103:13
 returns : tie.Need-returns Inv-loop μ-loop
 returns c = found _ _ _ (c .before .before .before .loop .inv .1) (c .before .before .loop-test .taken) (lt-leb _ _ (c .if1 .taken))
 
--- src/lib.rt:105:9
 add-i : tie.Need-add-i Inv-loop μ-loop
 add-i c = omega arith
 
--- src/lib.rt:101:5
 loop-less : tie.Need-loop-less Inv-loop μ-loop
 loop-less c = omega arith
 
--- src/lib.rt:101:5
 loop-again : tie.Need-loop-again Inv-loop μ-loop
 loop-again c = (omega arith, passed-more _ _ (c .before .before .before .loop .inv .1) (le-leb _ _ (c .if1 .left)))
 
--- src/lib.rt:97:1
 returns-2 : tie.Need-returns-2 Inv-loop μ-loop
 returns-2 c = found-none _ _ _ (c .before .loop .inv .1) (c .before .loop .inv .0) (c .loop-test .left)
 

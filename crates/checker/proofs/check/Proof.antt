@@ -7,23 +7,18 @@ use Rattle.checker.proofs.check.Reads as reads
 use Rattle.checker.proofs.check.Lts as lts
 use Rattle.checker.proofs.check_typed.Reads as check-typed-reads
 
--- src/lib.rt:390:9
 check-typed-requires : tie.Need-check-typed-requires
 check-typed-requires c κs = search needs
 
--- src/lib.rt:392:38
 enum-told : tie.Need-enum-told
 enum-told c = search needs
 
--- src/lib.rt:393:29
 enum-known-judged : tie.Need-enum-known-judged
 enum-known-judged c = search needs
 
--- src/lib.rt:386:1
 returns : tie.Need-returns
 returns c = accepted (c .before .before .check-typed .ensures) (c .before .match .keys1)
 
--- src/lib.rt:386:1
 returns-2 : tie.Need-returns-2
 returns-2 c = refused-so (c .before .before .before .check-typed .ensures) (c .before .judged .given .1)
 

@@ -9,27 +9,21 @@ use Rattle.checker.proofs.check_typed.Lts as lts
 use Rattle.checker.proofs.judge.Reads as judge-reads
 use Rattle.reader.proofs.read_typed.Reads as read-typed-reads
 
--- src/lib.rt:378:9
 read-typed-requires : tie.Need-read-typed-requires
 read-typed-requires c κs = search needs
 
--- src/lib.rt:379:32
 enum-known-read : tie.Need-enum-known-read
 enum-known-read c = search needs
 
--- src/lib.rt:380:9
 enum-told : tie.Need-enum-told
 enum-told c = search needs
 
--- src/lib.rt:380:9
 returns : tie.Need-returns
 returns c = refused-first (c .before .before .read-typed .ensures) (c .before .match .keys2) (c .before .before .before .before .before .before .args .marking .now)
 
--- src/lib.rt:382:5
 judge-requires : tie.Need-judge-requires
 judge-requires c κs = typed-file (c .before .before .before .before .read-typed .ensures) (c .before .before .read .given .1) (record { each = λ i. omega (arith, c .before .before .before .before .before .before .before .shared-slice-known .given i) })
 
--- src/lib.rt:374:1
 returns-2 : tie.Need-returns-2
 returns-2 c = judged-then (c .before .before .before .before .before .read-typed .ensures) (c .before .before .before .read .given .1) (record { each = λ i. omega (arith, c .before .before .before .before .before .before .before .before .shared-slice-known .given i) }) (c .judge .ensures)
 

@@ -11,59 +11,45 @@ use Rattle.kinds.proofs.print_refusal.Reads as print-refusal-reads
 use Rattle.kinds.proofs.run.Reads as run-reads
 use Rattle.kinds.proofs.types_of.Reads as types-of-reads
 
--- src/main.rt:94:9
 infer-requires : tie.Need-infer-requires
 infer-requires c κs = search needs
 
--- src/main.rt:97:17
 enum-told : tie.Need-enum-told
 enum-told c = search needs
 
--- src/main.rt:97:17
 types-of-requires : tie.Need-types-of-requires
 types-of-requires c κs = search needs
 
--- src/main.rt:99:27
 slice-reshare-prefix-run : tie.Need-slice-reshare-prefix-run
 slice-reshare-prefix-run c = search needs
 
--- src/main.rt:99:27
 slice-aggregate-run : tie.Need-slice-aggregate-run
 slice-aggregate-run c = simp length-take (omega arith)
 
--- src/main.rt:99:17
 run-requires : tie.Need-run-requires
 run-requires c κs = search needs
 
--- src/main.rt:102:30
 enum-known-marked : tie.Need-enum-known-marked
 enum-known-marked c = search needs
 
--- src/main.rt:102:36
 print-refusal-requires : tie.Need-print-refusal-requires
 print-refusal-requires c κs = search needs
 
--- src/main.rt:93:1
 same-length : tie.Need-same-length
 same-length c = search needs
 
--- src/main.rt:93:1
 returns : tie.Need-returns
 returns c = search needs
 
--- src/main.rt:93:1
 same-length-2 : tie.Need-same-length-2
 same-length-2 c = search needs
 
--- src/main.rt:93:1
 returns-2 : tie.Need-returns-2
 returns-2 c = search needs
 
--- src/main.rt:93:1
 same-length-3 : tie.Need-same-length-3
 same-length-3 c = search needs
 
--- src/main.rt:93:1
 returns-3 : tie.Need-returns-3
 returns-3 c = search needs
 

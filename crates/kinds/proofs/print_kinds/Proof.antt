@@ -14,35 +14,27 @@ Inv-loop marking i₀ i = i ≤ length marking
 abbrev μ-loop : tie.MeasureT-loop
 μ-loop marking i₀ i = length marking - i
 
--- src/main.rt:33:5
 loop-holds : tie.Need-loop-holds Inv-loop μ-loop
 loop-holds c = search needs
 
--- src/main.rt:34:20
 add-print-kind : tie.Need-add-print-kind Inv-loop μ-loop
 add-print-kind c = search needs
 
--- src/main.rt:34:27
 shared-slice-read-print-kind : tie.Need-shared-slice-read-print-kind Inv-loop μ-loop
 shared-slice-read-print-kind c = search needs
 
--- src/main.rt:34:9
 print-kind-requires : tie.Need-print-kind-requires Inv-loop μ-loop
 print-kind-requires c κs = search needs
 
--- src/main.rt:35:9
 add-i : tie.Need-add-i Inv-loop μ-loop
 add-i c = search needs
 
--- src/main.rt:33:5
 loop-less : tie.Need-loop-less Inv-loop μ-loop
 loop-less c = search needs
 
--- src/main.rt:33:5
 loop-again : tie.Need-loop-again Inv-loop μ-loop
 loop-again c = search needs
 
--- src/main.rt:31:1
 returns : tie.Need-returns Inv-loop μ-loop
 returns c = search needs
 

@@ -14,47 +14,36 @@ Inv-loop file₀ marking₀ memory₀ out₀ at₀ offset₀ left₀ file markin
 abbrev μ-loop : tie.MeasureT-loop
 μ-loop file₀ marking₀ memory₀ out₀ at₀ offset₀ left₀ file marking memory out at offset left = left
 
--- src/main.rt:79:9
 slice-aggregate-file : tie.Need-slice-aggregate-file Inv-loop μ-loop
 slice-aggregate-file c = search needs
 
--- src/main.rt:80:9
 slice-aggregate-marking : tie.Need-slice-aggregate-marking Inv-loop μ-loop
 slice-aggregate-marking c = search needs
 
--- src/main.rt:81:9
 slice-aggregate-memory : tie.Need-slice-aggregate-memory Inv-loop μ-loop
 slice-aggregate-memory c = search needs
 
--- src/main.rt:82:9
 slice-aggregate-out : tie.Need-slice-aggregate-out Inv-loop μ-loop
 slice-aggregate-out c = search needs
 
--- src/main.rt:87:5
 loop-holds : tie.Need-loop-holds Inv-loop μ-loop
 loop-holds c = search needs
 
--- src/main.rt:88:13
 next-request-requires : tie.Need-next-request-requires Inv-loop μ-loop
 next-request-requires c κs = search needs
 
--- src/main.rt:94:9
 sub-left : tie.Need-sub-left Inv-loop μ-loop
 sub-left c = search needs
 
--- src/main.rt:87:5
 loop-less : tie.Need-loop-less Inv-loop μ-loop
 loop-less c = search needs
 
--- src/main.rt:87:5
 loop-again : tie.Need-loop-again Inv-loop μ-loop
 loop-again c = search needs
 
--- src/main.rt:96:5
 flush-requires : tie.Need-flush-requires Inv-loop μ-loop
 flush-requires c κs = search needs
 
--- src/main.rt:74:1
 returns : tie.Need-returns Inv-loop μ-loop
 returns c = search needs
 

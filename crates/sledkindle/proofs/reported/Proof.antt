@@ -8,15 +8,12 @@ use Rattle.sledkindle.proofs.reported.Lts as lts
 use Rattle.sledkindle.proofs.outcome_number.Reads as outcome-number-reads
 use Rattle.sledkindle.proofs.outcome_place.Reads as outcome-place-reads
 
--- src/lib.rt:107:16
 outcome-place-requires : tie.Need-outcome-place-requires
 outcome-place-requires c κs = search needs
 
--- src/lib.rt:108:18
 outcome-number-requires : tie.Need-outcome-number-requires
 outcome-number-requires c κs = search needs
 
--- src/lib.rt:101:1
 returns : tie.Need-returns
 returns c = reported-so (c .before .before .args .r .outcome) (c .before .outcome-place .ensures) (c .outcome-number .ensures)
 

@@ -7,23 +7,18 @@ use Rattle.sledkindle.proofs.sledkindle_check.Reads as reads
 use Rattle.sledkindle.proofs.sledkindle_check.Lts as lts
 use Rattle.checker.proofs.check.Reads as check-reads
 
--- src/lib.rt:50:9
 check-requires : tie.Need-check-requires
 check-requires c κs = search needs
 
--- src/lib.rt:52:34
 enum-told : tie.Need-enum-told
 enum-told c = search needs
 
--- src/lib.rt:56:30
 enum-known-answer : tie.Need-enum-known-answer
 enum-known-answer c = search needs
 
--- src/lib.rt:46:1
 returns : tie.Need-returns
 returns c = check-fine (c .before .before .check .result) (c .before .before .check .ensures) (c .before .match .keys1)
 
--- src/lib.rt:46:1
 returns-2 : tie.Need-returns-2
 returns-2 c = check-refused (c .before .before .before .check .result) (c .before .before .before .check .ensures) (c .before .answer .given .1)
 

@@ -7,31 +7,24 @@ use Rattle.sledkindle.proofs.sledkindle_infer.Reads as reads
 use Rattle.sledkindle.proofs.sledkindle_infer.Lts as lts
 use Rattle.infer.proofs.infer.Reads as infer-reads
 
--- src/lib.rt:67:9
 infer-requires : tie.Need-infer-requires
 infer-requires c κs = search needs
 
--- src/lib.rt:69:32
 enum-told : tie.Need-enum-told
 enum-told c = search needs
 
--- src/lib.rt:73:30
 enum-known-answer : tie.Need-enum-known-answer
 enum-known-answer c = search needs
 
--- src/lib.rt:63:1
 same-length : tie.Need-same-length
 same-length c = search needs
 
--- src/lib.rt:63:1
 returns : tie.Need-returns
 returns c = infer-fine (c .before .before .before .before .infer .result) (c .before .before .before .before .infer .ensures) (c .before .match .keys1)
 
--- src/lib.rt:63:1
 same-length-2 : tie.Need-same-length-2
 same-length-2 c = search needs
 
--- src/lib.rt:63:1
 returns-2 : tie.Need-returns-2
 returns-2 c = infer-refused (c .before .before .before .before .before .infer .result) (c .before .before .before .before .before .infer .ensures) (c .before .answer .given .1)
 

@@ -7,23 +7,18 @@ use Rattle.sledkindle.proofs.sledkindle_read.Reads as reads
 use Rattle.sledkindle.proofs.sledkindle_read.Lts as lts
 use Rattle.reader.proofs.read.Reads as read-reads
 
--- src/lib.rt:33:9
 read-requires : tie.Need-read-requires
 read-requires c κs = search needs
 
--- src/lib.rt:35:38
 enum-told : tie.Need-enum-told
 enum-told c = search needs
 
--- src/lib.rt:39:29
 enum-known-answer : tie.Need-enum-known-answer
 enum-known-answer c = search needs
 
--- src/lib.rt:29:1
 returns : tie.Need-returns
 returns c = read-fine (c .before .before .read .result) (c .before .before .read .ensures) (c .before .match .keys1)
 
--- src/lib.rt:29:1
 returns-2 : tie.Need-returns-2
 returns-2 c = read-refused (c .before .before .before .read .result) (c .before .before .before .read .ensures) (c .before .answer .given .1)
 

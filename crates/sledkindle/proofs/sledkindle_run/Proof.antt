@@ -8,35 +8,27 @@ use Rattle.sledkindle.proofs.sledkindle_run.Lts as lts
 use Rattle.runner.proofs.run.Reads as run-reads
 use Rattle.sledkindle.proofs.reported.Reads as reported-reads
 
--- src/lib.rt:122:9
 run-requires : tie.Need-run-requires
 run-requires c κs = search needs
 
--- src/lib.rt:124:24
 enum-known-answer : tie.Need-enum-known-answer
 enum-known-answer c = search needs
 
--- src/lib.rt:124:30
 reported-requires : tie.Need-reported-requires
 reported-requires c κs = search needs
 
--- src/lib.rt:125:28
 enum-known-answer-2 : tie.Need-enum-known-answer-2
 enum-known-answer-2 c = search needs
 
--- src/lib.rt:113:1
 same-length : tie.Need-same-length
 same-length c = search needs
 
--- src/lib.rt:113:1
 returns : tie.Need-returns
 returns c = ran-so (c .before .before .before .before .before .before .run .result) (c .before .before .before .before .before .before .run .ensures) (c .before .before .answer .given .1) (c .reported .ensures)
 
--- src/lib.rt:113:1
 same-length-2 : tie.Need-same-length-2
 same-length-2 c = search needs
 
--- src/lib.rt:113:1
 returns-2 : tie.Need-returns-2
 returns-2 c = run-refused (c .before .before .before .before .before .run .result) (c .before .before .before .before .before .run .ensures) (c .before .answer2 .given .1)
 

@@ -19,35 +19,27 @@ Inv-loop file at n table₀ t₀ table t = (1 ≤ t) × (t ≤ n + 1) × ((k : �
 abbrev μ-loop : tie.MeasureT-loop
 μ-loop file at n table₀ t₀ table t = n + 1 - t
 
--- src/lib.rt:25:5
 loop-holds : tie.Need-loop-holds Inv-loop μ-loop
 loop-holds c = (omega arith, omega arith, λ k e. filled-all (filled-none (c .before .pre .2)) (omega arith))
 
--- src/lib.rt:26:13
 type-row-requires : tie.Need-type-row-requires Inv-loop μ-loop
 type-row-requires c κs = type-asked (c .before .before .before .pre .0) (omega (arith, c .before .before .before .pre .1))
 
--- src/lib.rt:27:20
 narrow-requires : tie.Need-narrow-requires Inv-loop μ-loop
 narrow-requires c κs = row-small (c .before .before .before .before .pre .0) (c .before .before .loop .inv .0) (omega (arith, c .before .before .before .before .pre .1)) (c .type-row .ensures)
 
--- src/lib.rt:27:9
 element-write-table : tie.Need-element-write-table Inv-loop μ-loop
 element-write-table c = omega (arith, c .before .before .before .before .before .pre .0 .types .few, c .before .before .before .before .before .pre .1)
 
--- src/lib.rt:28:9
 add-t : tie.Need-add-t Inv-loop μ-loop
 add-t c = omega (arith, c .before .before .before .before .before .pre .0 .types .few, c .before .before .before .before .before .pre .1)
 
--- src/lib.rt:25:5
 loop-less : tie.Need-loop-less Inv-loop μ-loop
 loop-less c = omega arith
 
--- src/lib.rt:25:5
 loop-again : tie.Need-loop-again Inv-loop μ-loop
 loop-again c = (omega arith, omega arith, λ k e. filled-all (filled-more (omega (arith, c .before .before .before .before .before .pre .0 .types .few, c .before .before .before .before .before .pre .1)) (omega (arith, c .before .before .before .loop .inv .0)) (c .before .before .before .loop .inv .2 (c .before .before .before .loop .t - 1) (omega (arith, c .before .before .before .loop .inv .0))) (c .narrow .ensures ∙ ap (λ (x : TypeRow). x .target) (c .before .type-row .ensures))) (omega arith))
 
--- src/lib.rt:20:1
 returns : tie.Need-returns Inv-loop μ-loop
 returns c = c .before .loop .inv .2 (c .before .before .before .args .n) (omega arith)
 

@@ -16,43 +16,33 @@ Inv-loop out₀ at marking end₀ i₀ out end i = (i ≤ length marking) × (le
 abbrev μ-loop : tie.MeasureT-loop
 μ-loop out₀ at marking end₀ i₀ out end i = length marking - i
 
--- src/answers.rt:89:37
 slice-aggregate-put-word : tie.Need-slice-aggregate-put-word Inv-loop μ-loop
 slice-aggregate-put-word c = search needs
 
--- src/answers.rt:89:9
 put-word-requires : tie.Need-put-word-requires Inv-loop μ-loop
 put-word-requires c κs = search needs
 
--- src/answers.rt:91:5
 loop-holds : tie.Need-loop-holds Inv-loop μ-loop
 loop-holds c = search needs
 
--- src/answers.rt:92:34
 shared-slice-read-put-byte : tie.Need-shared-slice-read-put-byte Inv-loop μ-loop
 shared-slice-read-put-byte c = search needs
 
--- src/answers.rt:92:9
 put-byte-requires : tie.Need-put-byte-requires Inv-loop μ-loop
 put-byte-requires c κs = search needs
 
--- src/answers.rt:93:9
 add-i : tie.Need-add-i Inv-loop μ-loop
 add-i c = search needs
 
--- src/answers.rt:91:5
 loop-less : tie.Need-loop-less Inv-loop μ-loop
 loop-less c = search needs
 
--- src/answers.rt:91:5
 loop-again : tie.Need-loop-again Inv-loop μ-loop
 loop-again c = search needs
 
--- src/answers.rt:88:1
 same-length : tie.Need-same-length Inv-loop μ-loop
 same-length c = search needs
 
--- src/answers.rt:88:1
 returns : tie.Need-returns Inv-loop μ-loop
 returns c = search needs
 

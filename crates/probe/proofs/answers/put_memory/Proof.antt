@@ -16,47 +16,36 @@ Inv-loop out₀ at memory end₀ i₀ out end i = (i ≤ length memory) × (leng
 abbrev μ-loop : tie.MeasureT-loop
 μ-loop out₀ at memory end₀ i₀ out end i = length memory - i
 
--- src/answers.rt:104:37
 slice-aggregate-put-word : tie.Need-slice-aggregate-put-word Inv-loop μ-loop
 slice-aggregate-put-word c = search needs
 
--- src/answers.rt:104:9
 put-word-requires : tie.Need-put-word-requires Inv-loop μ-loop
 put-word-requires c κs = search needs
 
--- src/answers.rt:106:5
 loop-holds : tie.Need-loop-holds Inv-loop μ-loop
 loop-holds c = search needs
 
--- src/answers.rt:107:34
 mul-put-next : tie.Need-mul-put-next Inv-loop μ-loop
 mul-put-next c = search needs
 
--- src/answers.rt:107:34
 shared-slice-read-put-next : tie.Need-shared-slice-read-put-next Inv-loop μ-loop
 shared-slice-read-put-next c = search needs
 
--- src/answers.rt:107:9
 put-next-requires : tie.Need-put-next-requires Inv-loop μ-loop
 put-next-requires c κs = search needs
 
--- src/answers.rt:108:9
 add-i : tie.Need-add-i Inv-loop μ-loop
 add-i c = search needs
 
--- src/answers.rt:106:5
 loop-less : tie.Need-loop-less Inv-loop μ-loop
 loop-less c = search needs
 
--- src/answers.rt:106:5
 loop-again : tie.Need-loop-again Inv-loop μ-loop
 loop-again c = search needs
 
--- src/answers.rt:103:1
 same-length : tie.Need-same-length Inv-loop μ-loop
 same-length c = search needs
 
--- src/answers.rt:103:1
 returns : tie.Need-returns Inv-loop μ-loop
 returns c = search needs
 

@@ -8,19 +8,15 @@ use Rattle.probe.proofs.lines.flush.Reads as reads
 use Rattle.probe.proofs.lines.flush.Lts as lts
 use Rattle.io.proofs.write_all.Reads as write-all-reads
 
--- src/lines.rt:43:38
 slice-aggregate-write-all : tie.Need-slice-aggregate-write-all
 slice-aggregate-write-all c = sym (length-take-le _ _ (c .before .if1 .taken))
 
--- src/lines.rt:43:9
 write-all-requires : tie.Need-write-all-requires
 write-all-requires c κs = search needs
 
--- src/lines.rt:41:1
 returns : tie.Need-returns
 returns c = search needs
 
--- src/lines.rt:41:1
 returns-2 : tie.Need-returns-2
 returns-2 c = search needs
 

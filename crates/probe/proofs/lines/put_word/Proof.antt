@@ -15,35 +15,27 @@ Inv-loop out₀ at word end₀ i₀ out end i = (i ≤ length word) × (length o
 abbrev μ-loop : tie.MeasureT-loop
 μ-loop out₀ at word end₀ i₀ out end i = length word - i
 
--- src/lines.rt:25:5
 loop-holds : tie.Need-loop-holds Inv-loop μ-loop
 loop-holds c = search needs
 
--- src/lines.rt:26:29
 shared-slice-read-put : tie.Need-shared-slice-read-put Inv-loop μ-loop
 shared-slice-read-put c = search needs
 
--- src/lines.rt:26:9
 put-requires : tie.Need-put-requires Inv-loop μ-loop
 put-requires c κs = search needs
 
--- src/lines.rt:27:9
 add-i : tie.Need-add-i Inv-loop μ-loop
 add-i c = search needs
 
--- src/lines.rt:25:5
 loop-less : tie.Need-loop-less Inv-loop μ-loop
 loop-less c = search needs
 
--- src/lines.rt:25:5
 loop-again : tie.Need-loop-again Inv-loop μ-loop
 loop-again c = search needs
 
--- src/lines.rt:21:1
 same-length : tie.Need-same-length Inv-loop μ-loop
 same-length c = search needs
 
--- src/lines.rt:21:1
 returns : tie.Need-returns Inv-loop μ-loop
 returns c = search needs
 

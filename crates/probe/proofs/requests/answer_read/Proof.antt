@@ -12,67 +12,51 @@ use Rattle.probe.proofs.requests.read_part.Reads as read-part-reads
 use Rattle.probe.proofs.requests.sized.Reads as sized-reads
 use Rattle.reader.proofs.read.Reads as read-reads
 
--- src/requests.rt:74:9
 read-part-requires : tie.Need-read-part-requires
 read-part-requires c κs = search needs
 
--- src/requests.rt:75:20
 enum-known-part : tie.Need-enum-known-part
 enum-known-part c = search needs
 
--- src/requests.rt:76:9
 enum-told : tie.Need-enum-told
 enum-told c = search needs
 
--- src/requests.rt:76:9
 same-length : tie.Need-same-length
 same-length c = search needs
 
--- src/requests.rt:76:9
 returns : tie.Need-returns
 returns c = search needs
 
--- src/requests.rt:80:9
 same-length-2 : tie.Need-same-length-2
 same-length-2 c = search needs
 
--- src/requests.rt:80:9
 returns-2 : tie.Need-returns-2
 returns-2 c = search needs
 
--- src/requests.rt:82:31
 slice-reshare-prefix-read : tie.Need-slice-reshare-prefix-read
 slice-reshare-prefix-read c = search needs
 
--- src/requests.rt:82:31
 slice-aggregate-read : tie.Need-slice-aggregate-read
 slice-aggregate-read c = simp length-take (omega arith)
 
--- src/requests.rt:82:9
 read-requires : tie.Need-read-requires
 read-requires c κs = search needs
 
--- src/requests.rt:83:9
 put-read-requires : tie.Need-put-read-requires
 put-read-requires c κs = search needs
 
--- src/requests.rt:84:10
 sized-requires : tie.Need-sized-requires
 sized-requires c κs = search needs
 
--- src/requests.rt:84:5
 line-requires : tie.Need-line-requires
 line-requires c κs = search needs
 
--- src/requests.rt:73:1
 same-length-3 : tie.Need-same-length-3
 same-length-3 c = search needs
 
--- src/requests.rt:73:1
 same-length-4 : tie.Need-same-length-4
 same-length-4 c = search needs
 
--- src/requests.rt:73:1
 returns-3 : tie.Need-returns-3
 returns-3 c = search needs
 

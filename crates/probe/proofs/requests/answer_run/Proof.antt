@@ -12,179 +12,135 @@ use Rattle.probe.proofs.requests.read_rest.Reads as read-rest-reads
 use Rattle.probe.proofs.requests.read_two.Reads as read-two-reads
 use Rattle.probe.proofs.requests.sized.Reads as sized-reads
 
--- src/requests.rt:184:9
 read-two-requires : tie.Need-read-two-requires
 read-two-requires c κs = search needs
 
--- src/requests.rt:185:18
 enum-known-parts : tie.Need-enum-known-parts
 enum-known-parts c = search needs
 
--- src/requests.rt:186:9
 enum-told : tie.Need-enum-told
 enum-told c = search needs
 
--- src/requests.rt:186:9
 same-length : tie.Need-same-length
 same-length c = search needs
 
--- src/requests.rt:186:9
 same-length-2 : tie.Need-same-length-2
 same-length-2 c = search needs
 
--- src/requests.rt:186:9
 returns : tie.Need-returns
 returns c = search needs
 
--- src/requests.rt:188:9
 read-rest-requires : tie.Need-read-rest-requires
 read-rest-requires c κs = search needs
 
--- src/requests.rt:189:18
 enum-known-rest : tie.Need-enum-known-rest
 enum-known-rest c = search needs
 
--- src/requests.rt:190:9
 enum-told-2 : tie.Need-enum-told-2
 enum-told-2 c = search needs
 
--- src/requests.rt:190:9
 same-length-3 : tie.Need-same-length-3
 same-length-3 c = search needs
 
--- src/requests.rt:190:9
 same-length-4 : tie.Need-same-length-4
 same-length-4 c = search needs
 
--- src/requests.rt:190:9
 same-length-5 : tie.Need-same-length-5
 same-length-5 c = search needs
 
--- src/requests.rt:190:9
 returns-2 : tie.Need-returns-2
 returns-2 c = search needs
 
--- src/requests.rt:193:9
 same-length-6 : tie.Need-same-length-6
 same-length-6 c = search needs
 
--- src/requests.rt:193:9
 same-length-7 : tie.Need-same-length-7
 same-length-7 c = search needs
 
--- src/requests.rt:193:9
 same-length-8 : tie.Need-same-length-8
 same-length-8 c = search needs
 
--- src/requests.rt:193:9
 returns-3 : tie.Need-returns-3
 returns-3 c = search needs
 
--- src/requests.rt:196:9
 same-length-9 : tie.Need-same-length-9
 same-length-9 c = search needs
 
--- src/requests.rt:196:9
 same-length-10 : tie.Need-same-length-10
 same-length-10 c = search needs
 
--- src/requests.rt:196:9
 same-length-11 : tie.Need-same-length-11
 same-length-11 c = search needs
 
--- src/requests.rt:196:9
 returns-4 : tie.Need-returns-4
 returns-4 c = search needs
 
--- src/requests.rt:199:9
 same-length-12 : tie.Need-same-length-12
 same-length-12 c = search needs
 
--- src/requests.rt:199:9
 same-length-13 : tie.Need-same-length-13
 same-length-13 c = search needs
 
--- src/requests.rt:199:9
 same-length-14 : tie.Need-same-length-14
 same-length-14 c = search needs
 
--- src/requests.rt:199:9
 returns-5 : tie.Need-returns-5
 returns-5 c = search needs
 
--- src/requests.rt:201:23
 slice-reshare-prefix-put-run : tie.Need-slice-reshare-prefix-put-run
 slice-reshare-prefix-put-run c = search needs
 
--- src/requests.rt:201:23
 slice-aggregate-put-run : tie.Need-slice-aggregate-put-run
 slice-aggregate-put-run c = simp length-take (omega arith)
 
--- src/requests.rt:201:35
 slice-reshare-prefix-put-run-2 : tie.Need-slice-reshare-prefix-put-run-2
 slice-reshare-prefix-put-run-2 c = search needs
 
--- src/requests.rt:201:35
 slice-aggregate-put-run-2 : tie.Need-slice-aggregate-put-run-2
 slice-aggregate-put-run-2 c = simp length-take (omega arith)
 
--- src/requests.rt:201:56
 slice-relend-prefix-put-run : tie.Need-slice-relend-prefix-put-run
 slice-relend-prefix-put-run c = search needs
 
--- src/requests.rt:201:56
 slice-aggregate-put-run-3 : tie.Need-slice-aggregate-put-run-3
 slice-aggregate-put-run-3 c = simp length-take (omega arith)
 
--- src/requests.rt:201:9
 put-run-requires : tie.Need-put-run-requires
 put-run-requires c κs = search needs
 
--- src/requests.rt:202:10
 sized-requires : tie.Need-sized-requires
 sized-requires c κs = search needs
 
--- src/requests.rt:202:21
 sized-requires-2 : tie.Need-sized-requires-2
 sized-requires-2 c κs = search needs
 
--- src/requests.rt:202:10
 add-line : tie.Need-add-line
 add-line c = search needs
 
--- src/requests.rt:202:10
 add-line-2 : tie.Need-add-line-2
 add-line-2 c = search needs
 
--- src/requests.rt:202:36
 mul-line : tie.Need-mul-line
 mul-line c = search needs
 
--- src/requests.rt:202:10
 add-line-3 : tie.Need-add-line-3
 add-line-3 c = search needs
 
--- src/requests.rt:202:5
 line-requires : tie.Need-line-requires
 line-requires c κs = search needs
 
--- src/requests.rt:177:1
 same-length-15 : tie.Need-same-length-15
 same-length-15 c = search needs
 
--- src/requests.rt:177:1
 same-length-16 : tie.Need-same-length-16
 same-length-16 c = search needs
 
--- src/requests.rt:177:1
 same-length-17 : tie.Need-same-length-17
 same-length-17 c = search needs
 
--- src/requests.rt:177:1
 same-length-18 : tie.Need-same-length-18
 same-length-18 c = search needs
 
--- src/requests.rt:177:1
 returns-6 : tie.Need-returns-6
 returns-6 c = search needs
 

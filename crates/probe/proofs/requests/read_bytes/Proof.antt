@@ -8,35 +8,27 @@ use Rattle.probe.proofs.requests.read_bytes.Reads as reads
 use Rattle.probe.proofs.requests.read_bytes.Lts as lts
 use Rattle.io.proofs.read_full.Reads as read-full-reads
 
--- src/requests.rt:29:9
 returns : tie.Need-returns
 returns c = search needs
 
--- src/requests.rt:31:43
 slice-relend-prefix-read-full : tie.Need-slice-relend-prefix-read-full
 slice-relend-prefix-read-full c = search needs
 
--- src/requests.rt:31:43
 slice-aggregate-read-full : tie.Need-slice-aggregate-read-full
 slice-aggregate-read-full c = simp length-take (omega arith)
 
--- src/requests.rt:31:9
 read-full-requires : tie.Need-read-full-requires
 read-full-requires c κs = search needs
 
--- src/requests.rt:33:9
 same-length : tie.Need-same-length
 same-length c = search needs
 
--- src/requests.rt:33:9
 returns-2 : tie.Need-returns-2
 returns-2 c = search needs
 
--- src/requests.rt:27:1
 same-length-2 : tie.Need-same-length-2
 same-length-2 c = search needs
 
--- src/requests.rt:27:1
 returns-3 : tie.Need-returns-3
 returns-3 c = search needs
 

@@ -15,59 +15,45 @@ Inv-loop memory₀ n i₀ memory i = (i ≤ n) × (n ≤ length memory) × (leng
 abbrev μ-loop : tie.MeasureT-loop
 μ-loop memory₀ n i₀ memory i = n - i
 
--- src/requests.rt:48:9
 returns : tie.Need-returns Inv-loop μ-loop
 returns c = search needs
 
--- src/requests.rt:51:5
 loop-holds : tie.Need-loop-holds Inv-loop μ-loop
 loop-holds c = search needs
 
--- src/requests.rt:52:13
 entry-requires : tie.Need-entry-requires Inv-loop μ-loop
 entry-requires c κs = search needs
 
--- src/requests.rt:53:24
 enum-known-next : tie.Need-enum-known-next Inv-loop μ-loop
 enum-known-next c = search needs
 
--- src/requests.rt:54:13
 enum-told : tie.Need-enum-told Inv-loop μ-loop
 enum-told c = search needs
 
--- src/requests.rt:54:13
 same-length : tie.Need-same-length Inv-loop μ-loop
 same-length c = search needs
 
--- src/requests.rt:54:13
 returns-2 : tie.Need-returns-2 Inv-loop μ-loop
 returns-2 c = search needs
 
--- src/requests.rt:56:9
 mul-memory : tie.Need-mul-memory Inv-loop μ-loop
 mul-memory c = search needs
 
--- src/requests.rt:56:9
 slice-write-memory : tie.Need-slice-write-memory Inv-loop μ-loop
 slice-write-memory c = search needs
 
--- src/requests.rt:57:9
 add-i : tie.Need-add-i Inv-loop μ-loop
 add-i c = search needs
 
--- src/requests.rt:51:5
 loop-less : tie.Need-loop-less Inv-loop μ-loop
 loop-less c = search needs
 
--- src/requests.rt:51:5
 loop-again : tie.Need-loop-again Inv-loop μ-loop
 loop-again c = search needs
 
--- src/requests.rt:46:1
 same-length-2 : tie.Need-same-length-2 Inv-loop μ-loop
 same-length-2 c = search needs
 
--- src/requests.rt:46:1
 returns-3 : tie.Need-returns-3 Inv-loop μ-loop
 returns-3 c = search needs
 
