@@ -8,7 +8,7 @@ use Rattle.rules.specs.declared.Kind.the-variants.{int, SAFE, SEQ, DYNAMIC}
 use Rattle.rules.specs.Kinds.{kind, isDynamic}
 use Rattle.rules.specs.Memory.{State, cell, encode}
 use Rattle.rules.specs.Values.{nullValue}
-use Rattle.rules.specs.Run.{freshValue, freshCells, givenValue, cleared, given, start}
+use Rattle.rules.specs.Start.{freshValue, freshCells, givenValue, cleared, given, start}
 use Rattle.rules.specs.Valid.{In, Real, Laid, ValidAt, number, wildPair, Valid, Holds, ValidState}
 use mathlib.Core.Path.{_≡_, refl, sym, ap, _∙_}
 use mathlib.Core.Logic.{inl}

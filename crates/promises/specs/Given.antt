@@ -13,7 +13,7 @@ use Rattle.rules.specs.Reading.{below}
 use Rattle.rules.specs.Shape.{homeAt}
 use Rattle.rules.specs.Kinds.{kind}
 use Rattle.rules.specs.Memory.{State, cell}
-use Rattle.rules.specs.Run.{startAddress, givenIn, cleared, given, start}
+use Rattle.rules.specs.Start.{startAddress, givenIn, cleared, given, start}
 use Rattle.rules.specs.Tests.{parts-true}
 use Rattle.promises.specs.Promises.{Starting, StartingMemory}
 use Rattle.laws.specs.Store.{cell-same, cell-other}

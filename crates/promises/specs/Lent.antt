@@ -23,7 +23,8 @@ use Rattle.rules.specs.Steps.{Step, entered, looked, Told, quiet, after, tell}
 use Rattle.rules.specs.Memory.{State, cell, put, encode, decode, held, size, address}
 use Rattle.rules.specs.Ruled.{Check, check2, Ruled, gives, fails, stuck, onward, must}
 use Rattle.rules.specs.Values.{convert, homeValue, reachSafe, reach, fetched, paired, kept}
-use Rattle.rules.specs.Run.{Stop, Answer, got, stopped, Ran, done, halted, onValue, andThen, ruled, enter, onDone, afterwards, answered, turns, exprRow, evalBelow, commandRow, execBelow, freshCells, givenValue, cleared, given, start, run}
+use Rattle.rules.specs.Start.{freshCells, givenValue, cleared, given, start}
+use Rattle.rules.specs.Run.{Stop, Answer, got, stopped, Ran, done, halted, onValue, andThen, ruled, enter, onDone, afterwards, answered, turns, exprRow, evalBelow, commandRow, execBelow, run}
 use Rattle.rules.specs.Calls.{cellCount, running, runnable, reported}
 use Rattle.rules.specs.Tests.{false-true, parts-true, by-test}
 use Rattle.promises.specs.Promises.{Alone, SameRun}

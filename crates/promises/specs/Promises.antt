@@ -24,7 +24,8 @@ use Rattle.rules.specs.Steps.{Step, entered, looked, stored, Told, units}
 use Rattle.rules.specs.Memory.{State, cell, replay}
 use Rattle.rules.specs.Ruled.{Check, check2, gives, fails}
 use Rattle.rules.specs.Values.{convert, reach, moved, fetched}
-use Rattle.rules.specs.Run.{Stop, noFuel, failed, noRule, got, Ran, done, halted, freshValue, startAddress, givenIn, cleared, start, eval, exec, run}
+use Rattle.rules.specs.Start.{freshValue, startAddress, givenIn, cleared, start}
+use Rattle.rules.specs.Run.{Stop, noFuel, failed, noRule, got, Ran, done, halted, eval, exec, run}
 use Rattle.rules.specs.Ends.{Ends, leftAfter}
 use Rattle.rules.specs.Valid.{In, Real, InHome, Valid, ValidState}
 use Rattle.rules.specs.Calls.{formed, judged, cellCount, Ending, finished, outOfFuel, failedCheck, endingOf, stateOf, Left, Ended, Inferred, checking, running, readSays, checkSays, inferSays, runSays, runnable}

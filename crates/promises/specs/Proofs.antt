@@ -14,7 +14,8 @@ use Rattle.rules.specs.Calls.{formed, judged, lentEnough, cellCount, outOfFuel,
 use Rattle.rules.specs.Memory.{State, replay, encode, stepped}
 use Rattle.rules.specs.Ruled.{Check, check1, check2, check3, check4, checkNumber, gives, fails}
 use Rattle.rules.specs.Values.{convert, reach}
-use Rattle.rules.specs.Run.{noFuel, failed, noRule, Ran, done, halted, freshCells, cleared, start, run}
+use Rattle.rules.specs.Start.{freshCells, cleared, start}
+use Rattle.rules.specs.Run.{noFuel, failed, noRule, Ran, done, halted, run}
 use Rattle.rules.specs.Valid.{InHome, Laid, ValidState}
 use Rattle.rules.specs.Made.{Made, entersExpr, entersCommand, looks, stores}
 use mathlib.Core.Path.{_≡_, refl, sym, _∙_}

@@ -11,6 +11,7 @@ pub mod Memory
 pub mod Ruled
 pub mod Operators
 pub mod Values
+pub mod Start
 pub mod Run
 pub mod Ends
 pub mod Valid

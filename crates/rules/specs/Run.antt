@@ -1,18 +1,16 @@
--- A run: expressions, commands, the starting memory (RULES 6).
-use Prim.Native.Nat.{ℕ, zero, suc, _+_, _-_}
-use mathlib.Core.List.{List, [], _∷_, _++_}
-use lib.ListN.{length, replicate, drop, set}
+-- A run: expressions, commands, the whole (RULES 6).
+use Prim.Native.Nat.{ℕ, zero, suc, _-_}
+use mathlib.Core.List.{List}
 use Rattle.rules.specs.declared.Value.{Value}
-use Rattle.rules.specs.declared.Value.the-variants.{Number, Pair}
+use Rattle.rules.specs.declared.Value.the-variants.{Number}
 use Rattle.rules.specs.Basic.{choose}
-use Rattle.rules.specs.Table.{Expr, Command, StartRow, Home, Routine, literal, home, cast, null, sum, read, op, skip, then, store, ifElse, while}
+use Rattle.rules.specs.Table.{Expr, Command, Routine, literal, home, cast, null, sum, read, op, skip, then, store, ifElse, while}
 use Rattle.rules.specs.Shape.{homeAt, typeOf}
-use Rattle.rules.specs.declared.Kind.{Kind}
-use Rattle.rules.specs.declared.Kind.the-variants.{int, SAFE, SEQ, DYNAMIC}
 use Rattle.rules.specs.Kinds.{kind}
 use Rattle.rules.specs.Steps.{entered, looked, stored, Told, quiet, after, tell}
-use Rattle.rules.specs.Memory.{State, encode, cell, put}
+use Rattle.rules.specs.Memory.{State, cell, put}
 use Rattle.rules.specs.Ruled.{Check, Ruled, gives, fails, stuck}
+use Rattle.rules.specs.Start.{start}
 use Rattle.rules.specs.Values.{convert, homeValue, nullValue, moved, operated, truth, reach, fetched, kept}
 
 -- ---- answers
@@ -140,46 +138,7 @@ module _ (r : Routine) (m : List ℕ) where
 
 -- ---- the whole run
 
--- RULES 5.11: what a cell starts as, by its home's kind and its own.
-abbrev pub freshValue : Kind → Kind → Value
-freshValue int target = Number 0
-freshValue SAFE target = nullValue target
-freshValue SEQ target = nullValue target
-freshValue DYNAMIC target = Pair 0 0
-
--- What a start row's value is, by the home's kind: a number, or in a DYNAMIC home a pair of home 0.
-abbrev pub givenValue : Kind → ℕ → Value
-givenValue int n = Number n
-givenValue SAFE n = Number n
-givenValue SEQ n = Number n
-givenValue DYNAMIC n = Pair 0 n
-
--- The address of a start row's cell.
-abbrev pub startAddress : Routine → StartRow → ℕ
-startAddress r x = homeAt (r .homes) (x .home) .start + x .cell
-
 module _ (r : Routine) (m : List ℕ) where
-  abbrev pub freshCells : List Home → List ℕ
-  freshCells [] = []
-  freshCells (h ∷ hs) = replicate (h .size) (encode (freshValue (kind m (h .type)) (kind m (r .target (h .type))))) ++ freshCells hs
-
-  -- The cells' own starting values over the lent entries; surplus entries stay.
-  abbrev pub cleared : List ℕ → List ℕ
-  cleared lent = let cells = freshCells (drop 1 (r .homes)) in cells ++ drop (length cells) lent
-
-  -- What a start row's cell starts as.
-  abbrev pub givenIn : StartRow → Value
-  givenIn x = givenValue (kind m (homeAt (r .homes) (x .home) .type)) (x .value)
-
-  -- The values of the first n start rows over these entries.
-  abbrev pub given : ℕ → List ℕ → List ℕ
-  given zero l = l
-  given (suc n) l = set (given n l) (startAddress r (r .value n) - 1) (encode (givenIn (r .value n)))
-
-  -- The starting memory is written over the lent cells.
-  abbrev pub start : List ℕ → State
-  start lent = record { homes = r .homes; memory = given (r .values) (cleared lent) }
-
   -- The last command is the body.
   abbrev pub run : List ℕ → ℕ → Told Ran
-  run lent fuel = exec r m (start lent) (r .commands - 1) fuel
+  run lent fuel = exec r m (start r m lent) (r .commands - 1) fuel

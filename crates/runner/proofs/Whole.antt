@@ -10,7 +10,8 @@ use Rattle.rules.specs.declared.RunAnswer.the-variants as runs
 use Rattle.rules.specs.Basic.{half}
 use Rattle.rules.specs.Steps.{units}
 use Rattle.rules.specs.Table.{Home, Routine, routine}
-use Rattle.rules.specs.Run.{start, exec, run, cleared, given}
+use Rattle.rules.specs.Start.{start, cleared, given}
+use Rattle.rules.specs.Run.{exec, run}
 use Rattle.rules.specs.Calls.{endingOf, stateOf, Left, Ended, outcomeSays, runSays, reported, cellCount}
 use Rattle.rules.specs.Ends.{Ends, atStop, leftAfter}
 use Rattle.laws.specs.Start.{start-ok, length-start}

@@ -10,7 +10,7 @@ use Rattle.rules.specs.Basic.{choose}
 use Rattle.rules.specs.Table.{exprPlace, commandPlace}
 use Rattle.rules.specs.Kinds.{kind}
 use Rattle.rules.specs.Memory.{encode}
-use Rattle.rules.specs.Run.{freshValue}
+use Rattle.rules.specs.Start.{freshValue}
 use Rattle.view.specs.Rows.{typeRow}
 use Rattle.execute.specs.declared.Ran.{Ran}
 use Rattle.execute.specs.declared.Ran.the-variants.{Done, Fuel, Check}

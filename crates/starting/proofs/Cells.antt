@@ -15,7 +15,7 @@ use Rattle.rules.specs.Table.{Home, Routine, layout, total, routine}
 use Rattle.rules.specs.Kinds.{kind}
 use Rattle.rules.specs.Memory.{encode}
 use Rattle.rules.specs.Values.{nullValue}
-use Rattle.rules.specs.Run.{freshValue, freshCells, cleared}
+use Rattle.rules.specs.Start.{freshValue, freshCells, cleared}
 use Rattle.rules.specs.Calls.{cellCount}
 use Rattle.laws.specs.Start.{length-start}
 use Rattle.words.specs.Words.{Named}

@@ -15,7 +15,7 @@ use Rattle.rules.specs.Table.{routine}
 use Rattle.rules.specs.Shape.{homeAt}
 use Rattle.rules.specs.Kinds.{kind}
 use Rattle.rules.specs.Memory.{encode}
-use Rattle.rules.specs.Run.{givenValue, startAddress, givenIn, given, start}
+use Rattle.rules.specs.Start.{givenValue, startAddress, givenIn, given, start}
 use Rattle.rules.specs.Calls.{cellCount}
 use Rattle.laws.specs.WellRead.{WellRead}
 use Rattle.laws.specs.Formed.{Formed}

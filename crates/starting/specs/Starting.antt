@@ -5,7 +5,7 @@ use lib.ListN.{take, drop, replicate}
 use Rattle.rules.specs.declared.Starts.{Starts}
 use Rattle.rules.specs.Kinds.{kind}
 use Rattle.rules.specs.Memory.{encode}
-use Rattle.rules.specs.Run.{freshValue}
+use Rattle.rules.specs.Start.{freshValue}
 use Rattle.view.specs.Rows.{typeRow}
 
 -- x over n entries from place `from` on.

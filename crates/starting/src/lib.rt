@@ -13,7 +13,7 @@ ghost use Rattle.rules.specs.Basic.{half};
 ghost use Rattle.rules.specs.Table.{routine};
 ghost use Rattle.rules.specs.Memory.{encode};
 ghost use Rattle.rules.specs.Values.{nullValue};
-ghost use Rattle.rules.specs.Run.{freshValue, givenValue, startAddress, givenIn, cleared, given};
+ghost use Rattle.rules.specs.Start.{freshValue, givenValue, startAddress, givenIn, cleared, given};
 ghost use Rattle.rules.specs.Calls.{cellCount};
 ghost use Rattle.laws.specs.WellRead.{WellRead};
 ghost use Rattle.laws.specs.Formed.{Formed};

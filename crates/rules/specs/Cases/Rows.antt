@@ -14,7 +14,8 @@ use Rattle.rules.specs.Basic.{Verdict, fine, refused}
 use Rattle.rules.specs.Table.{routine}
 use Rattle.rules.specs.Ruled.{Check}
 use Rattle.rules.specs.Steps.{Step}
-use Rattle.rules.specs.Run.{Answer, got, stopped, failed, noRule, eval, start, run}
+use Rattle.rules.specs.Start.{start}
+use Rattle.rules.specs.Run.{Answer, got, stopped, failed, noRule, eval, run}
 use Rattle.rules.specs.Calls.{formed, judged, checking, inferable, Inferred, left, running, Ending, Ended, Left, finished, outOfFuel, failedCheck, stuckAt, endingOf, readSays, checkSays, inferSays, runSays}
 use Rattle.rules.specs.Cases.Least.{leastIn, leaves-least}
 
