@@ -18,7 +18,7 @@ use Rattle.rules.specs.Run.{run}
 use Rattle.rules.specs.Calls.{Left, Ended, readSays, runSays, judged, cellCount, runnable, running, reported}
 use Rattle.view.specs.declared.HomeRow.{HomeRow}
 use Rattle.view.specs.Rows.{homeRow}
-use Rattle.checker.specs.Judge.{CheckedTyped}
+use Rattle.checker.specs.Judge.{CheckedTyped, checked-types}
 use Rattle.filling.specs.Filling.{Accepted}
 
 -- ---- the cells that are needed
@@ -70,7 +70,8 @@ module _ (s m lent : List ℕ) (fuel : ℕ) where
     unfolding running runnable
     run-goes x l h = let e : leb needed (length lent) ≡ true = le-leb needed (length lent) l in h ∙ rw (j, ← c, e)
 
-pub accept : (s m ty : List ℕ) (x : ReadAnswer) (at : Starts) → ((i : ℕ) → getD s i 0 < 256) → CheckedTyped s m ty x → x ≡ reads.WellFormed at → Accepted s at m ty
-accept s m ty x at b h e =
+pub accept : (s m : List ℕ) {before ty : List ℕ} (x : ReadAnswer) (at : Starts) → ((i : ℕ) → getD s i 0 < 256) → CheckedTyped s m before ty x
+    → x ≡ reads.WellFormed at → Accepted s at m ty
+accept s m x at b h e =
     let j : judged s m ≡ fine at = sym (h .answer) ∙ ap readSays e in
-    record { bytes = record { each = b }; verdict = j; types = h .typed at j }
+    record { bytes = record { each = b }; verdict = j; types = checked-types h at j }
