@@ -7,12 +7,12 @@ use lib.ListN.{length, getD}
 use lib.Dec.{leb}
 use borrow.Author.Tests.{eq-eqb, ne-eqb, leb-true}
 use Rattle.rules.specs.declared.Starts.{Starts}
-use Rattle.rules.specs.Basic.{half, fine, refused, firstBad, Verdict}
+use Rattle.rules.specs.Basic.{half, Verdict, fine, refused, firstBad}
 use Rattle.rules.specs.Table.{routine, typePlace, exprPlace, commandPlace}
 use Rattle.rules.specs.Kinds.{typeKind, exprKind, commandKind, kinds}
 use Rattle.laws.specs.WellRead.{WellRead}
 use Rattle.checker.specs.First.{FirstBad, first-stops, none-fails}
-use Rattle.checker.specs.Tables.{AllTypes}
+use Rattle.checker.specs.Tables.{AllTypes, MarksOf}
 use Rattle.targets.specs.Filled.{TargetTable}
 use Rattle.needs.specs.Typed.{Typed}
 use Rattle.checker.specs.Judge.{MarkedFile, breaking}
@@ -24,45 +24,45 @@ starts-low w =
 
 -- ---- refusal 8
 
-module _ {s : List ℕ} {at : Starts} {Y T m : List ℕ} (g : MarkedFile s at Y T m) where
-  abbrev pub all-types : AllTypes T m
-  all-types = record { routine = routine s at; tables = g .tables }
+module _ {s : List ℕ} {at : Starts} {Y T K : List ℕ} (g : MarkedFile s at Y T K) where
+  abbrev pub all-types : {n : ℕ} → n ≡ half s (at .types) → AllTypes T K n
+  all-types e = record { routine = routine s at; marking = g .marking; tables = g .tables; count = e }
 
   abbrev TypesFirst : ℕ → ℕ → Type 0
-  TypesFirst n t = FirstBad (λ i. typeKind (routine s at) m (suc i)) n t
+  TypesFirst n t = FirstBad (λ i. typeKind (routine s at) (g .marking) (suc i)) n t
 
   abbrev ExprsFirst : ℕ → ℕ → Type 0
-  ExprsFirst n e = FirstBad (λ e. exprKind (routine s at) m (routine s at .expr e)) n e
+  ExprsFirst n e = FirstBad (λ e. exprKind (routine s at) (g .marking) (routine s at .expr e)) n e
 
   abbrev CommandsFirst : ℕ → ℕ → Type 0
-  CommandsFirst n c = FirstBad (λ c. commandKind (routine s at) m (routine s at .command c)) n c
+  CommandsFirst n c = FirstBad (λ c. commandKind (routine s at) (g .marking) (routine s at .command c)) n c
 
-  pub type-breaks : {t p : ℕ} → TypesFirst (length m) t → t < length m → p ≡ typePlace at (t + 1) → refused 8 p ≡ breaking (routine s at) m at
-  type-breaks {t} {p} f l q =
+  pub type-breaks : {n t p : ℕ} → n ≡ half s (at .types) → TypesFirst n t → t < n → p ≡ typePlace at (t + 1) → refused 8 p ≡ breaking (routine s at) (g .marking) at
+  type-breaks {n} {t} {p} e f l q =
       let r : p ≡ routine s at .typePlace (suc t) = omega arith in
-      ap (refused 8) r ∙ sym (first-stops 8 _ _ _ (rw (g .tables .size) at f) (omega (arith, g .tables .size)))
+      ap (refused 8) r ∙ sym (first-stops 8 _ _ _ (rw e at f) (omega arith))
 
-  types-pass : {t : ℕ} → TypesFirst (length m) t → length m ≤ t
-      → (firstBad 8 (λ e. exprKind (routine s at) m (routine s at .expr e)) (routine s at .exprPlace) 0 (routine s at .exprs) λ _.
-      firstBad 8 (λ c. commandKind (routine s at) m (routine s at .command c)) (routine s at .commandPlace) 0 (routine s at .commands) λ _.
-      fine at) ≡ breaking (routine s at) m at
-  types-pass f l = sym (none-fails 8 _ _ _ (rw (g .tables .size) at f) (omega (arith, g .tables .size)))
+  types-pass : {n t : ℕ} → n ≡ half s (at .types) → TypesFirst n t → n ≤ t
+      → (firstBad 8 (λ e. exprKind (routine s at) (g .marking) (routine s at .expr e)) (routine s at .exprPlace) 0 (routine s at .exprs) λ _.
+      firstBad 8 (λ c. commandKind (routine s at) (g .marking) (routine s at .command c)) (routine s at .commandPlace) 0 (routine s at .commands) λ _.
+      fine at) ≡ breaking (routine s at) (g .marking) at
+  types-pass e f l = sym (none-fails 8 _ _ _ (rw e at f) (omega arith))
 
-  module _ {t : ℕ} (f : TypesFirst (length m) t) (l : length m ≤ t) where
+  module _ {n t : ℕ} (e : n ≡ half s (at .types)) (f : TypesFirst n t) (l : n ≤ t) where
     pub expr-breaks : {k i p : ℕ} → k ≡ half s (at .exprs) → ExprsFirst k i → i < k → p ≡ exprPlace at i
-        → refused 8 p ≡ breaking (routine s at) m at
-    expr-breaks {k} {i} {p} q h u r = ap (refused 8) r ∙ sym (first-stops 8 _ _ _ (rw q at h) (omega arith)) ∙ types-pass f l
+        → refused 8 p ≡ breaking (routine s at) (g .marking) at
+    expr-breaks {k} {i} {p} q h u r = ap (refused 8) r ∙ sym (first-stops 8 _ _ _ (rw q at h) (omega arith)) ∙ types-pass e f l
 
     module _ {k i : ℕ} (q : k ≡ half s (at .exprs)) (h : ExprsFirst k i) (u : k ≤ i) where
-      exprs-pass : (firstBad 8 (λ c. commandKind (routine s at) m (routine s at .command c)) (routine s at .commandPlace) 0 (routine s at .commands) λ _.
-          fine at) ≡ breaking (routine s at) m at
-      exprs-pass = sym (none-fails 8 _ _ _ (rw q at h) (omega arith)) ∙ types-pass f l
+      exprs-pass : (firstBad 8 (λ c. commandKind (routine s at) (g .marking) (routine s at .command c)) (routine s at .commandPlace) 0 (routine s at .commands) λ _.
+          fine at) ≡ breaking (routine s at) (g .marking) at
+      exprs-pass = sym (none-fails 8 _ _ _ (rw q at h) (omega arith)) ∙ types-pass e f l
 
       pub command-breaks : {j c p : ℕ} → j ≡ half s (at .commands) → CommandsFirst j c → c < j → p ≡ commandPlace at c
-          → refused 8 p ≡ breaking (routine s at) m at
+          → refused 8 p ≡ breaking (routine s at) (g .marking) at
       command-breaks {j} {c} {p} v w x r = ap (refused 8) r ∙ sym (first-stops 8 _ _ _ (rw v at w) (omega arith)) ∙ exprs-pass
 
-      pub none-breaks : {j c : ℕ} → j ≡ half s (at .commands) → CommandsFirst j c → j ≤ c → fine at ≡ breaking (routine s at) m at
+      pub none-breaks : {j c : ℕ} → j ≡ half s (at .commands) → CommandsFirst j c → j ≤ c → fine at ≡ breaking (routine s at) (g .marking) at
       none-breaks v w x = sym (none-fails 8 _ _ (λ _. fine at) (rw v at w) (omega arith)) ∙ exprs-pass
 
 -- ---- refusal 7
@@ -95,20 +95,26 @@ module _ {s : List ℕ} {at : Starts} {Y : List ℕ} (m : List ℕ) (f : Typed s
     byte-fails l = rw (eq-eqb (length m) (half s (at .types)) same-length) (sym (first-stops 7 _ (λ i. i) _ (rw same-length at g) (omega arith)))
 
     module _ (l : n ≤ b) where
-      pub bytes-pass : breaking (routine s at) m at ≡ kinds (routine s at) m (λ _. fine at)
+      bytes-pass : breaking (routine s at) m at ≡ kinds (routine s at) m (λ _. fine at)
       unfolding kinds
       bytes-pass = rw (eq-eqb (length m) (half s (at .types)) same-length) (sym (none-fails 7 _ (λ i. i) _ (rw same-length at g) (omega arith)))
 
-      pub marked-file : {T₀ T : List ℕ} → TargetTable (routine s at) n T₀ T → MarkedFile s at Y T m
-      marked-file ts =
+      pub marked-file : {T₀ T K : List ℕ} → TargetTable (routine s at) n T₀ T → MarksOf m (length m) K → MarkedFile s at Y T K
+      marked-file ts ks =
           record {
             known = f;
+            marking = m;
             tables =
                 record {
                   few = f .file .types .few;
                   falls = f .formed .falls .by;
                   target = λ t h k. ts .each t h (omega arith);
-                  size = same-length;
+                  mark = λ t k. ks .each t (omega (arith, same-length));
                   bytes = λ i u. leb-true (getD m i 0) 2 (g .before i (omega arith));
                 };
           }
+
+      pub rows-decide : {T₀ T K : List ℕ} {v : Verdict Starts} → TargetTable (routine s at) n T₀ T → MarksOf m (length m) K
+          → ((g : MarkedFile s at Y T K) → v ≡ breaking (routine s at) (g .marking) at) → v ≡ kinds (routine s at) m (λ _. fine at)
+      unfolding marked-file
+      rows-decide ts ks h = h (marked-file ts ks) ∙ bytes-pass

@@ -2,9 +2,12 @@
 use mathlib.Core.Path.{_≡_, refl, sym, ap, _∙_}
 use mathlib.Core.Bool.{Bool, true}
 use Prim.Native.Nat.{ℕ, suc, _+_, _≤_, _<_}
+use native.Mathlib.Nat.{not-suc-le-zero}
+use native.Mathlib.Decide.{ℕ-discrete}
 use native.Mathlib.Omega.{arith}
 use mathlib.Core.List.{List}
-use lib.ListN.{length, getD}
+use lib.ListN.{length, getD, set, length-set}
+use lib.Seq.{getD-set-same, getD-set-other}
 use Rattle.rules.specs.declared.Starts.{Starts}
 use Rattle.rules.specs.declared.Kind.{Kind}
 use Rattle.rules.specs.declared.Need.{Need}
@@ -14,69 +17,87 @@ use Rattle.rules.proofs.Need as needs
 use Rattle.rules.specs.Table.{routine}
 use Rattle.rules.specs.Kinds.{kind, notSafe, converts, spreads, exprNeed, commandNeed, needMet, typeKind, exprKind, commandKind}
 use Rattle.laws.specs.Needs.{NeedFits, expr-need-fits, command-need-fits}
-use Rattle.checker.specs.Tables.{TwoTypes, OneType, AllTypes, Asked}
+use Rattle.checker.specs.Tables.{kindIn, TwoTypes, OneType, AllTypes, Asked, MarksOf}
 use Rattle.checker.specs.Judge.{MarkedFile}
-use Rattle.checker.proofs.KindLaws.{lower}
+use Rattle.checker.proofs.KindLaws.{lower, kind-by-marks}
 
 -- ---- a type row
 
-module _ {T m : List ℕ} {t : ℕ} (g : OneType T m t) where
-  pub target-in : getD T t 0 ≤ length m
-  target-in = omega (arith, lower (g .tables) t (λ e. omega (arith, g .up)) (g .last), g .last, g .tables .size)
+module _ {T K : List ℕ} {t : ℕ} (g : OneType T K t) where
+  target-in : getD T t 0 ≤ g .routine .types
+  target-in = omega (arith, lower (g .tables) t (λ e. omega (arith, g .up)) (g .last), g .last)
 
-  pub type-decides : {k l : Kind} {x : Bool} → k ≡ kind m t → l ≡ kind m (getD T t 0) → x ≡ spreads k l → x ≡ typeKind (g .routine) m t
+  pub type-decides : {k l : Kind} {x : Bool} → k ≡ kindIn K t → l ≡ kindIn K (getD T t 0) → x ≡ spreads k l → x ≡ typeKind (g .routine) (g .marking) t
   type-decides {k} {l} p q h =
-      h ∙ ap (λ k. spreads k l) p ∙ ap (spreads (kind m t)) (q ∙ ap (kind m) (g .tables .target t (g .up) (g .last)))
+      h ∙ ap (λ k. spreads k l) (p ∙ kind-by-marks (g .tables) t (g .last))
+      ∙ ap (spreads (kind (g .marking) t)) (q ∙ kind-by-marks (g .tables) (getD T t 0) target-in ∙ ap (kind (g .marking)) (g .tables .target t (g .up) (g .last)))
 
-abbrev pub one-of : {T m : List ℕ} {i : ℕ} → AllTypes T m → i < length m → OneType T m (i + 1)
-one-of g l = record { routine = g .routine; tables = g .tables; up = omega arith; last = omega (arith, g .tables .size) }
+abbrev pub one-of : {T K : List ℕ} {n i : ℕ} → AllTypes T K n → i < n → OneType T K (i + 1)
+one-of g l = record { routine = g .routine; marking = g .marking; tables = g .tables; up = omega arith; last = omega (arith, g .count) }
 
-pub type-says : {T m : List ℕ} {i : ℕ} {x y : Bool} (g : AllTypes T m) (l : i < length m)
-    → ((h : OneType T m (i + 1)) → x ≡ typeKind (h .routine) m (i + 1)) → x ≡ y → typeKind (g .routine) m (suc i) ≡ y
-type-says {m = m} {i = i} g l h e = let p : suc i ≡ i + 1 = omega arith in ap (typeKind (g .routine) m) p ∙ sym (h (one-of g l)) ∙ e
+pub type-says : {T K : List ℕ} {n i : ℕ} {x y : Bool} (g : AllTypes T K n) (l : i < n)
+    → ((h : OneType T K (i + 1)) → x ≡ typeKind (h .routine) (h .marking) (i + 1)) → x ≡ y → typeKind (g .routine) (g .marking) (suc i) ≡ y
+type-says {i = i} g l h e = let p : suc i ≡ i + 1 = omega arith in ap (typeKind (g .routine) (g .marking)) p ∙ sym (h (one-of g l)) ∙ e
 
 -- ---- what a row asks
 
-module _ {T m : List ℕ} {need : Need} (g : Asked T m need) where
-  pub nothing-decides : tagOf needs.the-type need ≡ 0 → true ≡ needMet (g .routine) m need
+module _ {T K : List ℕ} {need : Need} (g : Asked T K need) where
+  pub nothing-decides : tagOf needs.the-type need ≡ 0 → true ≡ needMet (g .routine) (g .marking) need
   nothing-decides h = go need h
     where
-      go : (need : Need) → tagOf needs.the-type need ≡ 0 → true ≡ needMet (g .routine) m need
+      go : (need : Need) → tagOf needs.the-type need ≡ 0 → true ≡ needMet (g .routine) (g .marking) need
       go Nothing h = refl
       go (Moving t) h = absurd (omega arith)
       go (Converting s t) h = absurd (omega arith)
 
   module _ {t : ℕ} (e : need ≡ Moving t) where
-    pub moving-in : t ≤ length m
-    moving-in = let f : NeedFits (g .routine .types) (Moving t) = rw e at (g .fits) in omega (arith, f .1, g .tables .size)
-
-    pub moving-decides : {k : Kind} {x : Bool} → k ≡ kind m t → x ≡ notSafe k → x ≡ needMet (g .routine) m need
-    moving-decides p h = h ∙ ap notSafe p ∙ ap (needMet (g .routine) m) (sym e)
+    pub moving-decides : {k : Kind} {x : Bool} → k ≡ kindIn K t → x ≡ notSafe k → x ≡ needMet (g .routine) (g .marking) need
+    moving-decides p h =
+        let f : NeedFits (g .routine .types) (Moving t) = rw e at (g .fits) in
+        h ∙ ap notSafe (p ∙ kind-by-marks (g .tables) t (f .1)) ∙ ap (needMet (g .routine) (g .marking)) (sym e)
 
   module _ {s t : ℕ} (e : need ≡ Converting s t) where
-    pub converting-two : TwoTypes T m s t
+    pub converting-two : TwoTypes T K s t
     converting-two =
         let f : NeedFits (g .routine .types) (Converting s t) = rw e at (g .fits) in
-        record { routine = g .routine; tables = g .tables; first = f .0; second = f .1 }
+        record { routine = g .routine; marking = g .marking; tables = g .tables; first = f .0; second = f .1 }
 
-    pub converting-decides : {x : Bool} → ((h : TwoTypes T m s t) → x ≡ converts (h .routine) m s t) → x ≡ needMet (g .routine) m need
+    pub converting-decides : {x : Bool} → ((h : TwoTypes T K s t) → x ≡ converts (h .routine) (h .marking) s t) → x ≡ needMet (g .routine) (g .marking) need
     unfolding converting-two
-    converting-decides h = h converting-two ∙ ap (needMet (g .routine) m) (sym e)
+    converting-decides h = h converting-two ∙ ap (needMet (g .routine) (g .marking)) (sym e)
 
 -- ---- the rows of a file
 
-module _ {s : List ℕ} {at : Starts} {Y T m : List ℕ} (g : MarkedFile s at Y T m) {need : Need} where
-  abbrev pub expr-asked : {e : ℕ} → e < routine s at .exprs → need ≡ exprNeed (routine s at) (routine s at .expr e) → Asked T m need
-  expr-asked {e} l q = record { routine = routine s at; tables = g .tables; fits = rw q (expr-need-fits (g .known .formed) e l) }
+module _ {s : List ℕ} {at : Starts} {Y T K : List ℕ} (g : MarkedFile s at Y T K) {need : Need} where
+  abbrev pub expr-asked : {e : ℕ} → e < routine s at .exprs → need ≡ exprNeed (routine s at) (routine s at .expr e) → Asked T K need
+  expr-asked {e} l q = record { routine = routine s at; marking = g .marking; tables = g .tables; fits = rw q (expr-need-fits (g .known .formed) e l) }
 
-  abbrev pub command-asked : {c : ℕ} → c < routine s at .commands → need ≡ commandNeed (routine s at) (routine s at .command c) → Asked T m need
-  command-asked {c} l q = record { routine = routine s at; tables = g .tables; fits = rw q (command-need-fits (g .known .formed) c l) }
+  abbrev pub command-asked : {c : ℕ} → c < routine s at .commands → need ≡ commandNeed (routine s at) (routine s at .command c) → Asked T K need
+  command-asked {c} l q = record { routine = routine s at; marking = g .marking; tables = g .tables; fits = rw q (command-need-fits (g .known .formed) c l) }
 
   -- What is said of the need is said of the row that asks it.
   pub expr-says : {e : ℕ} {x y : Bool} (l : e < routine s at .exprs) → need ≡ exprNeed (routine s at) (routine s at .expr e)
-      → ((h : Asked T m need) → x ≡ needMet (h .routine) m need) → x ≡ y → exprKind (routine s at) m (routine s at .expr e) ≡ y
-  expr-says l q h f = ap (needMet (routine s at) m) (sym q) ∙ sym (h (expr-asked l q)) ∙ f
+      → ((h : Asked T K need) → x ≡ needMet (h .routine) (h .marking) need) → x ≡ y → exprKind (routine s at) (g .marking) (routine s at .expr e) ≡ y
+  expr-says l q h f = ap (needMet (routine s at) (g .marking)) (sym q) ∙ sym (h (expr-asked l q)) ∙ f
 
   pub command-says : {c : ℕ} {x y : Bool} (l : c < routine s at .commands) → need ≡ commandNeed (routine s at) (routine s at .command c)
-      → ((h : Asked T m need) → x ≡ needMet (h .routine) m need) → x ≡ y → commandKind (routine s at) m (routine s at .command c) ≡ y
-  command-says l q h f = ap (needMet (routine s at) m) (sym q) ∙ sym (h (command-asked l q)) ∙ f
+      → ((h : Asked T K need) → x ≡ needMet (h .routine) (h .marking) need) → x ≡ y → commandKind (routine s at) (g .marking) (routine s at .command c) ≡ y
+  command-says l q h f = ap (needMet (routine s at) (g .marking)) (sym q) ∙ sym (h (command-asked l q)) ∙ f
+
+-- ---- the table of marks
+
+pub marks-none : {m K : List ℕ} → length K ≡ 256 → MarksOf m 0 K
+marks-none l = record { size = l; each = λ t h. absurd (not-suc-le-zero h) }
+
+pub marks-more : {m K : List ℕ} {i x : ℕ} → length m ≤ 255 → i < length m → MarksOf m i K → x ≡ getD m i 0 → MarksOf m (i + 1) (set K (i + 1) x)
+marks-more {m} {K} {i} {x} few l g e =
+    record { size = rw length-set (g .size); each = λ t h. elim (ℕ-discrete t i) [ yes q ↦ here t q | no d ↦ there t h d ] }
+  where
+    here : (t : ℕ) → t ≡ i → getD (set K (i + 1) x) (suc t) 0 ≡ getD m t 0
+    here t q = let p : suc t ≡ i + 1 = omega arith in rw (p, q) (getD-set-same K (i + 1) x 0 (omega (arith, g .size)) ∙ e)
+
+    there : (t : ℕ) → t < i + 1 → (t ≡ i → ⊥) → getD (set K (i + 1) x) (suc t) 0 ≡ getD m t 0
+    there t h d = getD-set-other K (i + 1) (suc t) x 0 (λ q. d (omega arith)) ∙ g .each t (omega arith)
+
+pub marks-all : {m K : List ℕ} {i : ℕ} → MarksOf m i K → i ≤ length m → length m ≤ i → MarksOf m (length m) K
+marks-all {m} {K} {i} g h l = let e : length m ≡ i = omega arith in rw e g

@@ -17,10 +17,11 @@ use Rattle.reader.specs.Tables.{TypeTable}
 use Rattle.needs.specs.Typed.{Typed}
 use Rattle.checker.specs.Tables.{TypeTables}
 
--- A well-formed file, the types of its expressions and the targets of its types, under a marking of its types.
-pub record MarkedFile (s : List ℕ) (at : Starts) (types targets m : List ℕ) : Type 0 where
+-- A well-formed file and the types of its expressions, under a marking that the tables stand for.
+pub record MarkedFile (s : List ℕ) (at : Starts) (types targets marks : List ℕ) : Type 0 where
   pub known : Typed s at types
-  pub tables : TypeTables (routine s at) targets m
+  pub marking : List ℕ
+  pub tables : TypeTables (routine s at) marking targets marks
 
 -- Refusal 8, over types, expressions, commands.
 abbrev pub breaking : Routine → List ℕ → Starts → Verdict Starts

@@ -1,7 +1,7 @@
 // The checker: whether a marking is acceptable, refusals 7 and 8.
 use needs::command_need;
 use needs::expr_need;
-use needs::kind_of;
+use needs::kind_by;
 use rules::CheckAnswer;
 use rules::Kind;
 use rules::Need;
@@ -21,13 +21,13 @@ ghost use Rattle.rules.specs.Table.{typePlace, exprPlace, commandPlace, routine
 ghost use Rattle.view.specs.Rows.{countsOf};
 ghost use Rattle.needs.specs.Typed.{Typed};
 ghost use Rattle.checker.specs.Judge.{CheckedTyped, MarkedFile, breaking};
-ghost use Rattle.checker.specs.Tables.{TwoTypes, OneType, AllTypes, Asked};
+ghost use Rattle.checker.specs.Tables.{kindIn, TwoTypes, OneType, AllTypes, Asked, MarksOf};
 ghost use Rattle.checker.specs.First.{FirstBad};
 
 // Whether types t and u are equal. Their targets are compared by this function again: targets fall.
-fn same(targets: &[u8; 256], marking: &[u8], t: u8, u: u8) -> bool
-    requires { ⌜ TwoTypes (now targets) (now marking) t u ⌝ }
-    ensures { λ x. ⌜ ((g : TwoTypes (now (targets .entry)) (now (marking .entry)) t u) → x ≡ Rattle.rules.specs.Kinds.same (g .routine) (now (marking .entry)) t u) ⌝ }
+fn same(targets: &[u8; 256], marks: &[u8; 256], t: u8, u: u8) -> bool
+    requires { ⌜ TwoTypes (now targets) (now marks) t u ⌝ }
+    ensures { λ x. ⌜ ((g : TwoTypes (now (targets .entry)) (now (marks .entry)) t u) → x ≡ Rattle.rules.specs.Kinds.same (g .routine) (g .marking) t u) ⌝ }
 {
     if t == u {
         return true;
@@ -40,14 +40,24 @@ fn same(targets: &[u8; 256], marking: &[u8], t: u8, u: u8) -> bool
     }
     let i = t as usize;
     let j = u as usize;
-    let k = marking[i - 1];
-    if k != marking[j - 1] {
+    let k = marks[i];
+    if k != marks[j] {
         return false;
     }
     if k == 2 {
         return true;
     }
-    same(targets, marking, targets[i], targets[j])
+    same(targets, marks, targets[i], targets[j])
+}
+
+// The kind of type t.
+fn kind_at(marks: &[u8; 256], t: u8) -> Kind
+    ensures { λ r. ⌜ r ≡ kindIn (now (marks .entry)) t ⌝ }
+{
+    if t == 0 {
+        return Kind::int;
+    }
+    kind_by(marks[t as usize])
 }
 
 // Whether a reference or int of the first kind converts to the second, by the kinds alone.
@@ -107,21 +117,21 @@ fn targets_matter(a: Kind, b: Kind) -> bool
 }
 
 // Whether a value of the first type converts to the second.
-fn converts(targets: &[u8; 256], marking: &[u8], from: u8, to: u8) -> bool
-    requires { ⌜ TwoTypes (now targets) (now marking) from to ⌝ }
-    ensures { λ x. ⌜ ((g : TwoTypes (now (targets .entry)) (now (marking .entry)) from to) → x ≡ Rattle.rules.specs.Kinds.converts (g .routine) (now (marking .entry)) from to) ⌝ }
+fn converts(targets: &[u8; 256], marks: &[u8; 256], from: u8, to: u8) -> bool
+    requires { ⌜ TwoTypes (now targets) (now marks) from to ⌝ }
+    ensures { λ x. ⌜ ((g : TwoTypes (now (targets .entry)) (now (marks .entry)) from to) → x ≡ Rattle.rules.specs.Kinds.converts (g .routine) (g .marking) from to) ⌝ }
 {
     let i = from as usize;
     let j = to as usize;
-    let a = kind_of(marking, from as u16);
-    let b = kind_of(marking, to as u16);
+    let a = kind_at(marks, from);
+    let b = kind_at(marks, to);
     if !kinds_convert(a, b) {
         return false;
     }
     if !targets_matter(a, b) {
         return true;
     }
-    same(targets, marking, targets[i], targets[j])
+    same(targets, marks, targets[i], targets[j])
 }
 
 // Whether a kind is one of a reference that may be moved.
@@ -137,14 +147,14 @@ fn not_safe(k: Kind) -> bool
 }
 
 // Whether the marking gives what a row asks.
-fn met(targets: &[u8; 256], marking: &[u8], need: Need) -> bool
-    requires { ⌜ Asked (now targets) (now marking) need ⌝ }
-    ensures { λ x. ⌜ ((g : Asked (now (targets .entry)) (now (marking .entry)) need) → x ≡ needMet (g .routine) (now (marking .entry)) need) ⌝ }
+fn met(targets: &[u8; 256], marks: &[u8; 256], need: Need) -> bool
+    requires { ⌜ Asked (now targets) (now marks) need ⌝ }
+    ensures { λ x. ⌜ ((g : Asked (now (targets .entry)) (now (marks .entry)) need) → x ≡ needMet (g .routine) (g .marking) need) ⌝ }
 {
     match need {
         Need::Nothing => true,
-        Need::Moving(t) => not_safe(kind_of(marking, t as u16)),
-        Need::Converting(s, t) => converts(targets, marking, s, t),
+        Need::Moving(t) => not_safe(kind_at(marks, t)),
+        Need::Converting(s, t) => converts(targets, marks, s, t),
     }
 }
 
@@ -180,22 +190,22 @@ fn bad_byte(marking: &[u8]) -> usize
 }
 
 // Whether type t keeps the rule for type rows.
-fn type_ok(targets: &[u8; 256], marking: &[u8], t: usize) -> bool
-    requires { ⌜ OneType (now targets) (now marking) t ⌝ }
-    ensures { λ x. ⌜ ((g : OneType (now (targets .entry)) (now (marking .entry)) t) → x ≡ typeKind (g .routine) (now (marking .entry)) t) ⌝ }
+fn type_ok(targets: &[u8; 256], marks: &[u8; 256], t: u8) -> bool
+    requires { ⌜ OneType (now targets) (now marks) t ⌝ }
+    ensures { λ x. ⌜ ((g : OneType (now (targets .entry)) (now (marks .entry)) t) → x ≡ typeKind (g .routine) (g .marking) t) ⌝ }
 {
-    let target = targets[t] as u16;
-    spreads(kind_of(marking, t as u16), kind_of(marking, target))
+    let target = targets[t as usize];
+    spreads(kind_at(marks, t), kind_at(marks, target))
 }
 
-// The index from 0 of the first type row that breaks its rule, or their number.
-fn bad_type(targets: &[u8; 256], marking: &[u8]) -> usize
-    requires { ⌜ AllTypes (now targets) (now marking) ⌝ }
-    ensures { λ r. ⌜ ((g : AllTypes (now (targets .entry)) (now (marking .entry))) → FirstBad (λ i. typeKind (g .routine) (now (marking .entry)) (suc i)) (length (now (marking .entry))) r) ⌝ }
+// The index from 0 of the first of n type rows that breaks its rule, or n.
+fn bad_type(targets: &[u8; 256], marks: &[u8; 256], n: usize) -> usize
+    requires { ⌜ AllTypes (now targets) (now marks) n ⌝ }
+    ensures { λ r. ⌜ ((g : AllTypes (now (targets .entry)) (now (marks .entry)) n) → FirstBad (λ i. typeKind (g .routine) (g .marking) (suc i)) n r) ⌝ }
 {
     let mut i = 0;
-    while i < marking.len() {
-        if !type_ok(targets, marking, i + 1) {
+    while i < n {
+        if !type_ok(targets, marks, (i + 1) as u8) {
             return i;
         }
         i += 1;
@@ -209,16 +219,16 @@ fn bad_expr(
     at: Starts,
     types: &[u16; 1024],
     targets: &[u8; 256],
-    marking: &[u8],
+    marks: &[u8; 256],
     n: usize,
 ) -> usize
-    requires { ⌜ MarkedFile (now file) at (now types) (now targets) (now marking) × (n ≡ half (now file) (at .exprs)) ⌝ }
-    ensures { λ r. ⌜ FirstBad (λ e. exprKind (routine (now (file .entry)) at) (now (marking .entry)) (routine (now (file .entry)) at .expr e)) n r ⌝ }
+    requires { ⌜ MarkedFile (now file) at (now types) (now targets) (now marks) × (n ≡ half (now file) (at .exprs)) ⌝ }
+    ensures { λ r. ⌜ ((g : MarkedFile (now (file .entry)) at (now (types .entry)) (now (targets .entry)) (now (marks .entry))) → FirstBad (λ e. exprKind (routine (now (file .entry)) at) (g .marking) (routine (now (file .entry)) at .expr e)) n r) ⌝ }
 {
     let mut i = 0;
     while i < n {
         let need = expr_need(file, at, types, i);
-        if !met(targets, marking, need) {
+        if !met(targets, marks, need) {
             return i;
         }
         i += 1;
@@ -232,21 +242,34 @@ fn bad_command(
     at: Starts,
     types: &[u16; 1024],
     targets: &[u8; 256],
-    marking: &[u8],
+    marks: &[u8; 256],
     n: usize,
 ) -> usize
-    requires { ⌜ MarkedFile (now file) at (now types) (now targets) (now marking) × (n ≡ half (now file) (at .commands)) ⌝ }
-    ensures { λ r. ⌜ FirstBad (λ c. commandKind (routine (now (file .entry)) at) (now (marking .entry)) (routine (now (file .entry)) at .command c)) n r ⌝ }
+    requires { ⌜ MarkedFile (now file) at (now types) (now targets) (now marks) × (n ≡ half (now file) (at .commands)) ⌝ }
+    ensures { λ r. ⌜ ((g : MarkedFile (now (file .entry)) at (now (types .entry)) (now (targets .entry)) (now (marks .entry))) → FirstBad (λ c. commandKind (routine (now (file .entry)) at) (g .marking) (routine (now (file .entry)) at .command c)) n r) ⌝ }
 {
     let mut i = 0;
     while i < n {
         let need = command_need(file, at, types, i);
-        if !met(targets, marking, need) {
+        if !met(targets, marks, need) {
             return i;
         }
         i += 1;
     }
     i
+}
+
+// The bytes of a marking, each at its type's number: a table of fixed length keeps comparing types in registers.
+fn fill_marks(marking: &[u8], marks: &mut [u8; 256])
+    requires { ⌜ (length (now marking) ≤ 255) × (length (now marks) ≡ 256) ⌝ }
+    ensures { λ _. ⌜ MarksOf (now (marking .entry)) (length (now (marking .entry))) (now (marks .exit)) ⌝ }
+{
+    let n = marking.len();
+    let mut i: usize = 0;
+    while i < n {
+        marks[i + 1] = marking[i];
+        i += 1;
+    }
 }
 
 // The places of a type row, by its index from 0, of an expression row and of a command row.
@@ -289,23 +312,24 @@ fn judge_rows(
     at: Starts,
     types: &[u16; 1024],
     targets: &[u8; 256],
-    marking: &[u8],
+    marks: &[u8; 256],
     n: Counts,
 ) -> ReadAnswer
-    requires { ⌜ MarkedFile (now file) at (now types) (now targets) (now marking) × (n ≡ countsOf (now file) at) ⌝ }
-    ensures { λ r. ⌜ readSays r ≡ breaking (routine (now (file .entry)) at) (now (marking .entry)) at ⌝ }
+    requires { ⌜ MarkedFile (now file) at (now types) (now targets) (now marks) × (n ≡ countsOf (now file) at) ⌝ }
+    ensures { λ r. ⌜ ((g : MarkedFile (now (file .entry)) at (now (types .entry)) (now (targets .entry)) (now (marks .entry))) → readSays r ≡ breaking (routine (now (file .entry)) at) (g .marking) at) ⌝ }
 {
-    let t = bad_type(targets, marking);
-    if t < marking.len() {
+    let n_types = wide(n.types);
+    let t = bad_type(targets, marks, n_types);
+    if t < n_types {
         return refuse(8, type_place(at, t));
     }
     let n_exprs = wide(n.exprs);
-    let e = bad_expr(file, at, types, targets, marking, n_exprs);
+    let e = bad_expr(file, at, types, targets, marks, n_exprs);
     if e < n_exprs {
         return refuse(8, expr_place(at, e));
     }
     let n_commands = wide(n.commands);
-    let c = bad_command(file, at, types, targets, marking, n_commands);
+    let c = bad_command(file, at, types, targets, marks, n_commands);
     if c < n_commands {
         return refuse(8, command_place(at, c));
     }
@@ -331,8 +355,10 @@ fn judge(file: &[u8], at: Starts, types: &[u16; 1024], marking: &[u8]) -> ReadAn
         return refuse(7, b as u32);
     }
     let mut targets = [0u8; 256];
+    let mut marks = [0u8; 256];
     targets::fill(file, at, n, &mut targets);
-    judge_rows(file, at, types, &targets, marking, counts)
+    fill_marks(marking, &mut marks);
+    judge_rows(file, at, types, &targets, &marks, counts)
 }
 
 // Refusals 1 to 8 and 10; and in `types` the types of the expression rows of a file that earns none of 1 to 5.

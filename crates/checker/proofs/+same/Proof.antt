@@ -1,7 +1,7 @@
 -- Two types are equal exactly if the code says so: each way out is a clause of the definition, one target down.
 use native.Mathlib.Omega.{arith}
 use mathlib.Core.Path.{_∙_}
-use Rattle.checker.proofs.KindLaws.{one-type, int-first, int-second, indices, bytes-differ, no-deeper, falling, targets-of, one-down}
+use Rattle.checker.proofs.KindLaws.{one-type, int-first, int-second, bytes-differ, no-deeper, falling, targets-of, one-down}
 use Prim.Native.Nat.{ℕ, _<_}
 use borrow.Fn.Kinds.{In}
 use borrow.Fn.PlainCycle.{Measures, is, falls, and}
@@ -29,21 +29,13 @@ same-returns-2 t c = λ g. int-first g (c .before .if1 .left) (c .if2 .taken)
 same-returns-3 : (t : ℕ) → same-lts.Need-returns-3 (same-below t, same.Post) (same-at t) same.Post
 same-returns-3 t c = λ g. int-second g (c .before .if2 .left) (c .if3 .taken)
 
-same-sub-k : (t : ℕ) → same-lts.Need-sub-k (same-below t, same.Post) (same-at t) same.Post
-same-sub-k t c = omega (arith, c .before .if2 .left)
+same-element-copy-out-k :
+    (t : ℕ) → same-lts.Need-element-copy-out-k (same-below t, same.Post) (same-at t) same.Post
+same-element-copy-out-k t c = omega arith
 
-same-shared-slice-read-k :
-    (t : ℕ) → same-lts.Need-shared-slice-read-k (same-below t, same.Post) (same-at t) same.Post
-same-shared-slice-read-k t c = indices (c .before .before .before .before .before .pre .1) (c .before .before .if2 .left) (c .before .if3 .left) .0
-
-same-sub-if4 : (t : ℕ) → same-lts.Need-sub-if4 (same-below t, same.Post) (same-at t) same.Post
-same-sub-if4 t c = omega (arith, c .before .if3 .left)
-
-same-shared-slice-read-if4 : (t : ℕ) → same-lts.Need-shared-slice-read-if4 (
-  same-below t,
-  same.Post,
-) (same-at t) same.Post
-same-shared-slice-read-if4 t c = indices (c .before .before .before .before .before .before .pre .1) (c .before .before .before .if2 .left) (c .before .before .if3 .left) .1
+same-element-copy-out-if4 :
+    (t : ℕ) → same-lts.Need-element-copy-out-if4 (same-below t, same.Post) (same-at t) same.Post
+same-element-copy-out-if4 t c = omega arith
 
 same-returns-4 : (t : ℕ) → same-lts.Need-returns-4 (same-below t, same.Post) (same-at t) same.Post
 same-returns-4 t c = λ g. bytes-differ g (c .before .before .before .before .if2 .left) (c .before .before .before .if3 .left) (c .if4 .taken)
@@ -65,7 +57,7 @@ same-element-copy-out-same-2 t c = omega arith
 
 same-same-requires :
     (t : ℕ) → same-lts.Need-same-requires (same-below t, same.Post) (same-at t) same.Post
-same-same-requires t c κs = (omega (arith, falling (c .before .before .before .before .before .before .before .before .before .before .pre .1) (c .before .before .before .before .before .before .before .if2 .left) (c .before .before .before .before .before .before .if3 .left) (c .before .before .before .if4 .left), c .before .before .before .before .before .before .before .before .before .before .pre .0), targets-of (c .before .before .before .before .before .before .before .before .before .before .pre .1) (c .before .before .before .before .before .before .before .if2 .left) (c .before .before .before .before .before .before .if3 .left) (c .before .before .before .if4 .left))
+same-same-requires t c κs = (omega (arith, falling (c .before .before .before .before .before .before .before .before .before .pre .1) (c .before .before .before .before .before .before .before .if2 .left) (c .before .before .before .before .before .before .if3 .left) (c .before .before .before .if4 .left), c .before .before .before .before .before .before .before .before .before .pre .0), targets-of (c .before .before .before .before .before .before .before .before .before .pre .1) (c .before .before .before .before .before .before .before .if2 .left) (c .before .before .before .before .before .before .if3 .left) (c .before .before .before .if4 .left))
 
 same-returns-6 : (t : ℕ) → same-lts.Need-returns-6 (same-below t, same.Post) (same-at t) same.Post
 same-returns-6 t c = λ g. c .same .ensures (targets-of g (c .before .before .before .before .before .before .before .before .if2 .left) (c .before .before .before .before .before .before .before .if3 .left) (c .before .before .before .before .if4 .left)) ∙ one-down g (c .before .before .before .before .before .before .before .before .if2 .left) (c .before .before .before .before .before .before .before .if3 .left) (c .before .before .before .before .if4 .left) (c .before .before .before .if5 .left)
@@ -81,10 +73,8 @@ pub +same-spec : {M : Type 1} → statement M
     (same-returns t)
     (same-returns-2 t)
     (same-returns-3 t)
-    (same-sub-k t)
-    (same-shared-slice-read-k t)
-    (same-sub-if4 t)
-    (same-shared-slice-read-if4 t)
+    (same-element-copy-out-k t)
+    (same-element-copy-out-if4 t)
     (same-returns-4 t)
     (same-returns-5 t)
     (same-element-copy-out-same t)

@@ -1,7 +1,6 @@
 -- A search: every type row passed keeps its rule.
 use Prim.Native.Nat.{suc, _≤_, _-_}
 use native.Mathlib.Omega.{arith}
-use lib.ListN.{length}
 use borrow.Author.Tests.{not-true, not-false}
 use Rattle.rules.specs.Kinds.{typeKind}
 use Rattle.checker.specs.Tables.{AllTypes}
@@ -14,25 +13,28 @@ use Rattle.checker.proofs.bad_type.Lts as lts
 use Rattle.checker.proofs.type_ok.Reads as type-ok-reads
 
 abbrev Inv-loop : tie.InvT-loop
-Inv-loop targets marking i₀ i = (i ≤ length marking) × ((g : AllTypes targets marking) → Passed (λ j. typeKind (g .routine) marking (suc j)) i)
+Inv-loop targets marks n i₀ i = (i ≤ n) × ((g : AllTypes targets marks n) → Passed (λ j. typeKind (g .routine) (g .marking) (suc j)) i)
 
 abbrev μ-loop : tie.MeasureT-loop
-μ-loop targets marking i₀ i = length marking - i
+μ-loop targets marks n i₀ i = n - i
 
 loop-holds : tie.Need-loop-holds Inv-loop μ-loop
 loop-holds c = (omega arith, λ g. passed-none _)
 
 add-type-ok : tie.Need-add-type-ok Inv-loop μ-loop
-add-type-ok c = omega (arith, c .before .before .before .pre .tables .few, c .before .before .before .pre .tables .size)
+add-type-ok c = omega (arith, c .before .before .pre .tables .few, c .before .before .pre .count)
+
+cast-type-ok : tie.Need-cast-type-ok Inv-loop μ-loop
+cast-type-ok c = omega (arith, c .loop-test .taken, c .before .before .pre .tables .few, c .before .before .pre .count)
 
 type-ok-requires : tie.Need-type-ok-requires Inv-loop μ-loop
-type-ok-requires c κs = one-of (c .before .before .before .pre) (c .loop-test .taken)
+type-ok-requires c κs = one-of (c .before .before .pre) (c .loop-test .taken)
 
 returns : tie.Need-returns Inv-loop μ-loop
 returns c = λ g. found _ _ _ (c .before .before .before .loop .inv .1 g) (c .before .before .loop-test .taken) (type-says g (c .before .before .loop-test .taken) (c .before .type-ok .ensures) (not-true _ (c .if1 .taken)))
 
 add-i : tie.Need-add-i Inv-loop μ-loop
-add-i c = omega (arith, c .before .before .before .before .before .pre .tables .few, c .before .before .before .before .before .pre .tables .size)
+add-i c = omega (arith, c .before .before .before .before .pre .tables .few, c .before .before .before .before .pre .count)
 
 loop-less : tie.Need-loop-less Inv-loop μ-loop
 loop-less c = omega arith
@@ -51,6 +53,7 @@ bad-type-spec =
     μ-loop
     loop-holds
     add-type-ok
+    cast-type-ok
     type-ok-requires
     returns
     add-i

@@ -1,13 +1,13 @@
 -- Each need is a clause of the definition.
-use Rattle.checker.proofs.RowLaws.{nothing-decides, moving-in, moving-decides, converting-two, converting-decides}
+use Rattle.checker.proofs.RowLaws.{nothing-decides, moving-decides, converting-two, converting-decides}
 use borrow.Author.Needs.{needs}
 use Rattle.checker.proofs.met.Statement.{statement}
 use Rattle.checker.proofs.met.Tie as tie
 use Rattle.checker.proofs.met.Reads as reads
 use Rattle.checker.proofs.met.Lts as lts
 use Rattle.checker.proofs.converts.Reads as converts-reads
+use Rattle.checker.proofs.kind_at.Reads as kind-at-reads
 use Rattle.checker.proofs.not_safe.Reads as not-safe-reads
-use Rattle.needs.proofs.kind_of.Reads as kind-of-reads
 
 enum-told : tie.Need-enum-told
 enum-told c = search needs
@@ -15,11 +15,8 @@ enum-told c = search needs
 enum-known-need : tie.Need-enum-known-need
 enum-known-need c = search needs
 
-cast-kind-of : tie.Need-cast-kind-of
-cast-kind-of c = search needs
-
-kind-of-requires : tie.Need-kind-of-requires
-kind-of-requires c κs = moving-in (c .before .before .before .before .pre) (c .before .need .given .1)
+kind-at-requires : tie.Need-kind-at-requires
+kind-at-requires c κs = search needs
 
 not-safe-requires : tie.Need-not-safe-requires
 not-safe-requires c κs = search needs
@@ -28,13 +25,13 @@ enum-known-need-2 : tie.Need-enum-known-need-2
 enum-known-need-2 c = search needs
 
 converts-requires : tie.Need-converts-requires
-converts-requires c κs = converting-two (c .before .before .before .before .pre) (c .before .need2 .given .1)
+converts-requires c κs = converting-two (c .before .before .before .pre) (c .before .need2 .given .1)
 
 returns : tie.Need-returns
 returns c = λ g. nothing-decides g (c .before .match .keys1)
 
 returns-2 : tie.Need-returns-2
-returns-2 c = λ g. moving-decides g (c .before .before .before .need .given .1) (c .before .kind-of .ensures) (c .not-safe .ensures)
+returns-2 c = λ g. moving-decides g (c .before .before .before .need .given .1) (c .before .kind-at .ensures) (c .not-safe .ensures)
 
 returns-3 : tie.Need-returns-3
 returns-3 c = λ g. converting-decides g (c .before .before .need2 .given .1) (c .converts .ensures)
@@ -45,8 +42,7 @@ met-spec =
     (tie.spec
     enum-told
     enum-known-need
-    cast-kind-of
-    kind-of-requires
+    kind-at-requires
     not-safe-requires
     enum-known-need-2
     converts-requires
