@@ -12,7 +12,7 @@ use Rattle.rules.specs.Table.{routine, typePlace, exprPlace, commandPlace}
 use Rattle.rules.specs.Kinds.{typeKind, exprKind, commandKind, kinds}
 use Rattle.laws.specs.WellRead.{WellRead}
 use Rattle.checker.specs.First.{FirstBad, first-stops, none-fails}
-use Rattle.checker.specs.Tables.{AllTypes, MarksOf}
+use Rattle.checker.specs.Tables.{AllTypes, Marked, KindsOf}
 use Rattle.targets.specs.Filled.{TargetTable}
 use Rattle.needs.specs.Typed.{Typed}
 use Rattle.checker.specs.Judge.{MarkedFile, breaking}
@@ -99,7 +99,10 @@ module _ {s : List ℕ} {at : Starts} {Y : List ℕ} (m : List ℕ) (f : Typed s
       unfolding kinds
       bytes-pass = rw (eq-eqb (length m) (half s (at .types)) same-length) (sym (none-fails 7 _ (λ i. i) _ (rw same-length at g) (omega arith)))
 
-      pub marked-file : {T₀ T K : List ℕ} → TargetTable (routine s at) n T₀ T → MarksOf m (length m) K → MarkedFile s at Y T K
+      pub marked-bytes : Marked m
+      marked-bytes = record { few = omega (arith, f .file .types .few); bytes = λ i u. leb-true (getD m i 0) 2 (g .before i (omega arith)) }
+
+      pub marked-file : {T₀ T K : List ℕ} → TargetTable (routine s at) n T₀ T → KindsOf m (length m) K → MarkedFile s at Y T K
       marked-file ts ks =
           record {
             known = f;
@@ -109,12 +112,12 @@ module _ {s : List ℕ} {at : Starts} {Y : List ℕ} (m : List ℕ) (f : Typed s
                   few = f .file .types .few;
                   falls = f .formed .falls .by;
                   target = λ t h k. ts .each t h (omega arith);
-                  mark = λ t k. ks .each t (omega (arith, same-length));
-                  bytes = λ i u. leb-true (getD m i 0) 2 (g .before i (omega arith));
+                  small = λ t k. ks .small t (omega (arith, same-length));
+                  kindAt = λ t k. ks .kindAt t (omega (arith, same-length));
                 };
           }
 
-      pub rows-decide : {T₀ T K : List ℕ} {v : Verdict Starts} → TargetTable (routine s at) n T₀ T → MarksOf m (length m) K
+      pub rows-decide : {T₀ T K : List ℕ} {v : Verdict Starts} → TargetTable (routine s at) n T₀ T → KindsOf m (length m) K
           → ((g : MarkedFile s at Y T K) → v ≡ breaking (routine s at) (g .marking) at) → v ≡ kinds (routine s at) m (λ _. fine at)
       unfolding marked-file
       rows-decide ts ks h = h (marked-file ts ks) ∙ bytes-pass

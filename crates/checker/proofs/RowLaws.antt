@@ -1,36 +1,40 @@
 -- A row's rule by the tables: one law for each way out, and what makes each table entry that it reads be there.
 use mathlib.Core.Path.{_≡_, refl, sym, ap, _∙_}
 use mathlib.Core.Bool.{Bool, true}
-use Prim.Native.Nat.{ℕ, suc, _+_, _≤_, _<_}
-use native.Mathlib.Nat.{not-suc-le-zero}
+use Prim.Native.Nat.{ℕ, zero, suc, _+_, _≤_, _<_}
 use native.Mathlib.Decide.{ℕ-discrete}
 use native.Mathlib.Omega.{arith}
 use mathlib.Core.List.{List}
 use lib.ListN.{length, getD, set, length-set}
+use lib.Dec.{leb}
+use borrow.Author.Tests.{le-leb}
 use lib.Seq.{getD-set-same, getD-set-other}
 use Rattle.rules.specs.declared.Starts.{Starts}
-use Rattle.rules.specs.declared.Kind.{Kind}
 use Rattle.rules.specs.declared.Need.{Need}
 use Rattle.rules.specs.declared.Need.the-variants.{Nothing, Moving, Converting}
 use denote.Enum.Declared.{tagOf}
 use Rattle.rules.proofs.Need as needs
 use Rattle.rules.specs.Table.{routine}
-use Rattle.rules.specs.Kinds.{kind, notSafe, converts, spreads, exprNeed, commandNeed, needMet, typeKind, exprKind, commandKind}
+use Rattle.rules.specs.Kinds.{kindOf, kind, notSafe, converts, spreads, exprNeed, commandNeed, needMet, typeKind, exprKind, commandKind}
 use Rattle.laws.specs.Needs.{NeedFits, expr-need-fits, command-need-fits}
-use Rattle.checker.specs.Tables.{kindIn, TwoTypes, OneType, AllTypes, Asked, MarksOf}
+use Rattle.checker.specs.Tables.{kindBy, TwoTypes, OneType, AllTypes, Asked, Marked, KindsOf}
 use Rattle.checker.specs.Judge.{MarkedFile}
-use Rattle.checker.proofs.KindLaws.{lower, kind-by-marks}
+use Rattle.checker.proofs.KindLaws.{lower}
 
 -- ---- a type row
 
 module _ {T K : List ℕ} {t : ℕ} (g : OneType T K t) where
   target-in : getD T t 0 ≤ g .routine .types
-  target-in = omega (arith, lower (g .tables) t (λ e. omega (arith, g .up)) (g .last), g .last)
+  target-in = omega (arith, lower (g .tables) t (g .up) (g .last), g .last)
 
-  pub type-decides : {k l : Kind} {x : Bool} → k ≡ kindIn K t → l ≡ kindIn K (getD T t 0) → x ≡ spreads k l → x ≡ typeKind (g .routine) (g .marking) t
+  pub kinds-small : {k l : ℕ} → k ≡ getD K t 0 → l ≡ getD K (getD T t 0) 0 → (k < 4) × (l < 4)
+  kinds-small p q = (rw p (g .tables .small t (g .last)), rw q (g .tables .small (getD T t 0) target-in))
+
+  pub type-decides : {k l : ℕ} {x : Bool} → k ≡ getD K t 0 → l ≡ getD K (getD T t 0) 0 → x ≡ spreads (kindBy k) (kindBy l)
+      → x ≡ typeKind (g .routine) (g .marking) t
   type-decides {k} {l} p q h =
-      h ∙ ap (λ k. spreads k l) (p ∙ kind-by-marks (g .tables) t (g .last))
-      ∙ ap (spreads (kind (g .marking) t)) (q ∙ kind-by-marks (g .tables) (getD T t 0) target-in ∙ ap (kind (g .marking)) (g .tables .target t (g .up) (g .last)))
+      h ∙ ap (λ k. spreads k (kindBy l)) (ap kindBy p ∙ g .tables .kindAt t (g .last))
+      ∙ ap (spreads (kind (g .marking) t)) (ap kindBy q ∙ g .tables .kindAt (getD T t 0) target-in ∙ ap (kind (g .marking)) (g .tables .target t (g .up) (g .last)))
 
 abbrev pub one-of : {T K : List ℕ} {n i : ℕ} → AllTypes T K n → i < n → OneType T K (i + 1)
 one-of g l = record { routine = g .routine; marking = g .marking; tables = g .tables; up = omega arith; last = omega (arith, g .count) }
@@ -40,6 +44,12 @@ pub type-says : {T K : List ℕ} {n i : ℕ} {x y : Bool} (g : AllTypes T K n) (
 type-says {i = i} g l h e = let p : suc i ≡ i + 1 = omega arith in ap (typeKind (g .routine) (g .marking)) p ∙ sym (h (one-of g l)) ∙ e
 
 -- ---- what a row asks
+
+not-safe-by : (k : ℕ) → leb 2 k ≡ notSafe (kindBy k)
+not-safe-by zero = refl
+not-safe-by (suc zero) = refl
+not-safe-by (suc (suc zero)) = refl
+not-safe-by (suc (suc (suc k))) = le-leb 2 (suc (suc (suc k))) (omega arith)
 
 module _ {T K : List ℕ} {need : Need} (g : Asked T K need) where
   pub nothing-decides : tagOf needs.the-type need ≡ 0 → true ≡ needMet (g .routine) (g .marking) need
@@ -51,10 +61,10 @@ module _ {T K : List ℕ} {need : Need} (g : Asked T K need) where
       go (Converting s t) h = absurd (omega arith)
 
   module _ {t : ℕ} (e : need ≡ Moving t) where
-    pub moving-decides : {k : Kind} {x : Bool} → k ≡ kindIn K t → x ≡ notSafe k → x ≡ needMet (g .routine) (g .marking) need
-    moving-decides p h =
+    pub moving-decides : {k : ℕ} → k ≡ getD K t 0 → leb 2 k ≡ needMet (g .routine) (g .marking) need
+    moving-decides {k} p =
         let f : NeedFits (g .routine .types) (Moving t) = rw e at (g .fits) in
-        h ∙ ap notSafe (p ∙ kind-by-marks (g .tables) t (f .1)) ∙ ap (needMet (g .routine) (g .marking)) (sym e)
+        not-safe-by k ∙ ap notSafe (ap kindBy p ∙ g .tables .kindAt t (f .1)) ∙ ap (needMet (g .routine) (g .marking)) (sym e)
 
   module _ {s t : ℕ} (e : need ≡ Converting s t) where
     pub converting-two : TwoTypes T K s t
@@ -84,20 +94,45 @@ module _ {s : List ℕ} {at : Starts} {Y T K : List ℕ} (g : MarkedFile s at Y 
       → ((h : Asked T K need) → x ≡ needMet (h .routine) (h .marking) need) → x ≡ y → commandKind (routine s at) (g .marking) (routine s at .command c) ≡ y
   command-says l q h f = ap (needMet (routine s at) (g .marking)) (sym q) ∙ sym (h (command-asked l q)) ∙ f
 
--- ---- the table of marks
+-- ---- the table of kinds
 
-pub marks-none : {m K : List ℕ} → length K ≡ 256 → MarksOf m 0 K
-marks-none l = record { size = l; each = λ t h. absurd (not-suc-le-zero h) }
+kind-byte : (k : ℕ) → kindBy (suc k) ≡ kindOf k
+kind-byte zero = refl
+kind-byte (suc zero) = refl
+kind-byte (suc (suc k)) = refl
 
-pub marks-more : {m K : List ℕ} {i x : ℕ} → length m ≤ 255 → i < length m → MarksOf m i K → x ≡ getD m i 0 → MarksOf m (i + 1) (set K (i + 1) x)
-marks-more {m} {K} {i} {x} few l g e =
-    record { size = rw length-set (g .size); each = λ t h. elim (ℕ-discrete t i) [ yes q ↦ here t q | no d ↦ there t h d ] }
+pub kinds-none : {m K : List ℕ} → length K ≡ 256 → getD K 0 0 ≡ 0 → KindsOf m 0 K
+kinds-none {m} {K} l z =
+    record { size = l; small = λ t h. let e : t ≡ 0 = omega arith in rw e (omega arith); kindAt = λ t h. let e : t ≡ 0 = omega arith in rw (e, z) }
+
+pub kinds-more : {m K : List ℕ} {i x : ℕ} → Marked m → i < length m → KindsOf m i K → x ≡ getD m i 0 → KindsOf m (i + 1) (set K (i + 1) (x + 1))
+kinds-more {m} {K} {i} {x} marked l g e =
+    record {
+      size = rw length-set (g .size);
+      small = λ t h. elim (ℕ-discrete t (i + 1)) [ yes q ↦ small-here t q | no d ↦ small-there t h d ];
+      kindAt = λ t h. elim (ℕ-discrete t (i + 1)) [ yes q ↦ kind-here t q | no d ↦ kind-there t h d ];
+    }
   where
-    here : (t : ℕ) → t ≡ i → getD (set K (i + 1) x) (suc t) 0 ≡ getD m t 0
-    here t q = let p : suc t ≡ i + 1 = omega arith in rw (p, q) (getD-set-same K (i + 1) x 0 (omega (arith, g .size)) ∙ e)
+    here : getD (set K (i + 1) (x + 1)) (i + 1) 0 ≡ x + 1
+    here = getD-set-same K (i + 1) (x + 1) 0 (omega (arith, g .size, marked .few))
 
-    there : (t : ℕ) → t < i + 1 → (t ≡ i → ⊥) → getD (set K (i + 1) x) (suc t) 0 ≡ getD m t 0
-    there t h d = getD-set-other K (i + 1) (suc t) x 0 (λ q. d (omega arith)) ∙ g .each t (omega arith)
+    there : (t : ℕ) → (t ≡ i + 1 → ⊥) → getD (set K (i + 1) (x + 1)) t 0 ≡ getD K t 0
+    there t d = getD-set-other K (i + 1) t (x + 1) 0 d
 
-pub marks-all : {m K : List ℕ} {i : ℕ} → MarksOf m i K → i ≤ length m → length m ≤ i → MarksOf m (length m) K
-marks-all {m} {K} {i} g h l = let e : length m ≡ i = omega arith in rw e g
+    small-here : (t : ℕ) → t ≡ i + 1 → getD (set K (i + 1) (x + 1)) t 0 < 4
+    small-here t q = rw (q, here) (omega (arith, marked .bytes i l))
+
+    small-there : (t : ℕ) → t ≤ i + 1 → (t ≡ i + 1 → ⊥) → getD (set K (i + 1) (x + 1)) t 0 < 4
+    small-there t h d = rw (there t d) (g .small t (omega arith))
+
+    kind-there : (t : ℕ) → t ≤ i + 1 → (t ≡ i + 1 → ⊥) → kindBy (getD (set K (i + 1) (x + 1)) t 0) ≡ kind m t
+    kind-there t h d = ap kindBy (there t d) ∙ g .kindAt t (omega arith)
+
+    kind-here : (t : ℕ) → t ≡ i + 1 → kindBy (getD (set K (i + 1) (x + 1)) t 0) ≡ kind m t
+    kind-here t q =
+        let p : x + 1 ≡ suc (getD m i 0) = omega arith in
+        let r : suc i ≡ t = omega arith in
+        ap (λ j. kindBy (getD (set K (i + 1) (x + 1)) j 0)) q ∙ ap kindBy (here ∙ p) ∙ kind-byte (getD m i 0) ∙ ap (kind m) r
+
+pub kinds-all : {m K : List ℕ} {i : ℕ} → KindsOf m i K → i ≤ length m → length m ≤ i → KindsOf m (length m) K
+kinds-all {m} {K} {i} g h l = let e : length m ≡ i = omega arith in rw e g

@@ -18,10 +18,10 @@ use Rattle.needs.specs.Typed.{Typed}
 use Rattle.checker.specs.Tables.{TypeTables}
 
 -- A well-formed file and the types of its expressions, under a marking that the tables stand for.
-pub record MarkedFile (s : List ℕ) (at : Starts) (types targets marks : List ℕ) : Type 0 where
+pub record MarkedFile (s : List ℕ) (at : Starts) (types targets kinds : List ℕ) : Type 0 where
   pub known : Typed s at types
   pub marking : List ℕ
-  pub tables : TypeTables (routine s at) marking targets marks
+  pub tables : TypeTables (routine s at) marking targets kinds
 
 -- Refusal 8, over types, expressions, commands.
 abbrev pub breaking : Routine → List ℕ → Starts → Verdict Starts

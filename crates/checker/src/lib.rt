@@ -1,9 +1,7 @@
 // The checker: whether a marking is acceptable, refusals 7 and 8.
 use needs::command_need;
 use needs::expr_need;
-use needs::kind_by;
 use rules::CheckAnswer;
-use rules::Kind;
 use rules::Need;
 use rules::ReadAnswer;
 use rules::Refusal;
@@ -11,168 +9,125 @@ use rules::Starts;
 use view::Counts;
 use view::row_counts;
 ghost use mathlib.Core.Path.{_≡_};
-ghost use Prim.Native.Nat.{ℕ, suc, _+_, _≤_};
+ghost use Prim.Native.Nat.{ℕ, suc, _+_, _≤_, _<_};
 ghost use lib.ListN.{length, getD};
 ghost use lib.Dec.{leb};
-ghost use Rattle.rules.specs.Kinds.{kinds, kindConverts, targetsMatter, deep, notSafe, needMet, typeKind, exprKind, commandKind};
+ghost use Rattle.rules.specs.Kinds.{kinds, kindConverts, targetsMatter, needMet, typeKind, exprKind, commandKind};
 ghost use Rattle.rules.specs.Basic.{half, fine};
 ghost use Rattle.rules.specs.Calls.{readSays, checkSays, checking};
 ghost use Rattle.rules.specs.Table.{typePlace, exprPlace, commandPlace, routine};
 ghost use Rattle.view.specs.Rows.{countsOf};
 ghost use Rattle.needs.specs.Typed.{Typed};
 ghost use Rattle.checker.specs.Judge.{CheckedTyped, MarkedFile, breaking};
-ghost use Rattle.checker.specs.Tables.{kindIn, TwoTypes, OneType, AllTypes, Asked, MarksOf};
+ghost use Rattle.checker.specs.Tables.{kindBy, TwoTypes, OneType, AllTypes, Asked, Marked, KindsOf};
 ghost use Rattle.checker.specs.First.{FirstBad};
 
 // Whether types t and u are equal. Their targets are compared by this function again: targets fall.
-fn same(targets: &[u8; 256], marks: &[u8; 256], t: u8, u: u8) -> bool
-    requires { ⌜ TwoTypes (now targets) (now marks) t u ⌝ }
-    ensures { λ x. ⌜ ((g : TwoTypes (now (targets .entry)) (now (marks .entry)) t u) → x ≡ Rattle.rules.specs.Kinds.same (g .routine) (g .marking) t u) ⌝ }
+fn same(targets: &[u8; 256], kinds: &[u8; 256], t: u8, u: u8) -> bool
+    requires { ⌜ TwoTypes (now targets) (now kinds) t u ⌝ }
+    ensures { λ x. ⌜ ((g : TwoTypes (now (targets .entry)) (now (kinds .entry)) t u) → x ≡ Rattle.rules.specs.Kinds.same (g .routine) (g .marking) t u) ⌝ }
 {
     if t == u {
         return true;
     }
-    if t == 0 {
-        return false;
-    }
-    if u == 0 {
-        return false;
-    }
     let i = t as usize;
     let j = u as usize;
-    let k = marks[i];
-    if k != marks[j] {
+    let k = kinds[i];
+    if k != kinds[j] {
         return false;
     }
-    if k == 2 {
+    if k == 0 {
         return true;
     }
-    same(targets, marks, targets[i], targets[j])
+    if k == 3 {
+        return true;
+    }
+    same(targets, kinds, targets[i], targets[j])
 }
 
-// The kind of type t.
-fn kind_at(marks: &[u8; 256], t: u8) -> Kind
-    ensures { λ r. ⌜ r ≡ kindIn (now (marks .entry)) t ⌝ }
+// The number of type t's kind.
+fn kind_at(kinds: &[u8; 256], t: u8) -> u8
+    ensures { λ r. ⌜ (r ≡ getD (now (kinds .entry)) t 0) × (t < 256) ⌝ }
 {
-    if t == 0 {
-        return Kind::int;
-    }
-    kind_by(marks[t as usize])
+    kinds[t as usize]
 }
 
 // Whether a reference or int of the first kind converts to the second, by the kinds alone.
-fn kinds_convert(a: Kind, b: Kind) -> bool
-    ensures { λ x. ⌜ x ≡ kindConverts a b ⌝ }
+fn kinds_convert(a: u8, b: u8) -> bool
+    requires { ⌜ (a < 4) × (b < 4) ⌝ }
+    ensures { λ x. ⌜ x ≡ kindConverts (kindBy a) (kindBy b) ⌝ }
 {
-    match a {
-        Kind::int => match b {
-            Kind::int => true,
-            Kind::SAFE => false,
-            Kind::SEQ => true,
-            Kind::DYNAMIC => true,
-        },
-        Kind::SAFE => match b {
-            Kind::int => true,
-            Kind::SAFE => true,
-            Kind::SEQ => false,
-            Kind::DYNAMIC => false,
-        },
-        Kind::SEQ => match b {
-            Kind::int => true,
-            Kind::SAFE => true,
-            Kind::SEQ => true,
-            Kind::DYNAMIC => false,
-        },
-        Kind::DYNAMIC => match b {
-            Kind::int => true,
-            Kind::SAFE => false,
-            Kind::SEQ => false,
-            Kind::DYNAMIC => true,
-        },
+    if b == 0 {
+        return true;
     }
-}
-
-// Whether types of this kind are equal only with equal targets.
-fn is_deep(k: Kind) -> bool
-    ensures { λ x. ⌜ x ≡ deep k ⌝ }
-{
-    match k {
-        Kind::int => false,
-        Kind::SAFE => true,
-        Kind::SEQ => true,
-        Kind::DYNAMIC => false,
+    if a == b {
+        return true;
     }
+    if a == 0 {
+        return b != 1;
+    }
+    if a == 2 {
+        return b == 1;
+    }
+    false
 }
 
 // Whether a conversion between these kinds asks equal targets.
-fn targets_matter(a: Kind, b: Kind) -> bool
-    ensures { λ x. ⌜ x ≡ targetsMatter a b ⌝ }
+fn targets_matter(a: u8, b: u8) -> bool
+    requires { ⌜ (a < 4) × (b < 4) ⌝ }
+    ensures { λ x. ⌜ x ≡ targetsMatter (kindBy a) (kindBy b) ⌝ }
 {
-    match a {
-        Kind::int => false,
-        Kind::SAFE => is_deep(b),
-        Kind::SEQ => is_deep(b),
-        Kind::DYNAMIC => is_deep(b),
+    if a == 0 {
+        return false;
     }
+    if b == 1 {
+        return true;
+    }
+    b == 2
 }
 
 // Whether a value of the first type converts to the second.
-fn converts(targets: &[u8; 256], marks: &[u8; 256], from: u8, to: u8) -> bool
-    requires { ⌜ TwoTypes (now targets) (now marks) from to ⌝ }
-    ensures { λ x. ⌜ ((g : TwoTypes (now (targets .entry)) (now (marks .entry)) from to) → x ≡ Rattle.rules.specs.Kinds.converts (g .routine) (g .marking) from to) ⌝ }
+fn converts(targets: &[u8; 256], kinds: &[u8; 256], from: u8, to: u8) -> bool
+    requires { ⌜ TwoTypes (now targets) (now kinds) from to ⌝ }
+    ensures { λ x. ⌜ ((g : TwoTypes (now (targets .entry)) (now (kinds .entry)) from to) → x ≡ Rattle.rules.specs.Kinds.converts (g .routine) (g .marking) from to) ⌝ }
 {
     let i = from as usize;
     let j = to as usize;
-    let a = kind_at(marks, from);
-    let b = kind_at(marks, to);
+    let a = kinds[i];
+    let b = kinds[j];
     if !kinds_convert(a, b) {
         return false;
     }
     if !targets_matter(a, b) {
         return true;
     }
-    same(targets, marks, targets[i], targets[j])
-}
-
-// Whether a kind is one of a reference that may be moved.
-fn not_safe(k: Kind) -> bool
-    ensures { λ x. ⌜ x ≡ notSafe k ⌝ }
-{
-    match k {
-        Kind::int => false,
-        Kind::SAFE => false,
-        Kind::SEQ => true,
-        Kind::DYNAMIC => true,
-    }
+    same(targets, kinds, targets[i], targets[j])
 }
 
 // Whether the marking gives what a row asks.
-fn met(targets: &[u8; 256], marks: &[u8; 256], need: Need) -> bool
-    requires { ⌜ Asked (now targets) (now marks) need ⌝ }
-    ensures { λ x. ⌜ ((g : Asked (now (targets .entry)) (now (marks .entry)) need) → x ≡ needMet (g .routine) (g .marking) need) ⌝ }
+fn met(targets: &[u8; 256], kinds: &[u8; 256], need: Need) -> bool
+    requires { ⌜ Asked (now targets) (now kinds) need ⌝ }
+    ensures { λ x. ⌜ ((g : Asked (now (targets .entry)) (now (kinds .entry)) need) → x ≡ needMet (g .routine) (g .marking) need) ⌝ }
 {
     match need {
         Need::Nothing => true,
-        Need::Moving(t) => not_safe(kind_at(marks, t)),
-        Need::Converting(s, t) => converts(targets, marks, s, t),
+        Need::Moving(t) => 2 <= kind_at(kinds, t),
+        Need::Converting(s, t) => converts(targets, kinds, s, t),
     }
 }
 
 // Whether a type of the first kind may have a target of the second: DYNAMIC goes down.
-fn spreads(a: Kind, b: Kind) -> bool
-    ensures { λ x. ⌜ x ≡ Rattle.rules.specs.Kinds.spreads a b ⌝ }
+fn spreads(a: u8, b: u8) -> bool
+    requires { ⌜ (a < 4) × (b < 4) ⌝ }
+    ensures { λ x. ⌜ x ≡ Rattle.rules.specs.Kinds.spreads (kindBy a) (kindBy b) ⌝ }
 {
-    match a {
-        Kind::int => true,
-        Kind::SAFE => true,
-        Kind::SEQ => true,
-        Kind::DYNAMIC => match b {
-            Kind::int => true,
-            Kind::SAFE => false,
-            Kind::SEQ => false,
-            Kind::DYNAMIC => true,
-        },
+    if a != 3 {
+        return true;
     }
+    if b == 0 {
+        return true;
+    }
+    b == 3
 }
 
 // The index of the first byte that is no kind, or the marking's length.
@@ -190,22 +145,22 @@ fn bad_byte(marking: &[u8]) -> usize
 }
 
 // Whether type t keeps the rule for type rows.
-fn type_ok(targets: &[u8; 256], marks: &[u8; 256], t: u8) -> bool
-    requires { ⌜ OneType (now targets) (now marks) t ⌝ }
-    ensures { λ x. ⌜ ((g : OneType (now (targets .entry)) (now (marks .entry)) t) → x ≡ typeKind (g .routine) (g .marking) t) ⌝ }
+fn type_ok(targets: &[u8; 256], kinds: &[u8; 256], t: u8) -> bool
+    requires { ⌜ OneType (now targets) (now kinds) t ⌝ }
+    ensures { λ x. ⌜ ((g : OneType (now (targets .entry)) (now (kinds .entry)) t) → x ≡ typeKind (g .routine) (g .marking) t) ⌝ }
 {
     let target = targets[t as usize];
-    spreads(kind_at(marks, t), kind_at(marks, target))
+    spreads(kind_at(kinds, t), kind_at(kinds, target))
 }
 
 // The index from 0 of the first of n type rows that breaks its rule, or n.
-fn bad_type(targets: &[u8; 256], marks: &[u8; 256], n: usize) -> usize
-    requires { ⌜ AllTypes (now targets) (now marks) n ⌝ }
-    ensures { λ r. ⌜ ((g : AllTypes (now (targets .entry)) (now (marks .entry)) n) → FirstBad (λ i. typeKind (g .routine) (g .marking) (suc i)) n r) ⌝ }
+fn bad_type(targets: &[u8; 256], kinds: &[u8; 256], n: usize) -> usize
+    requires { ⌜ AllTypes (now targets) (now kinds) n ⌝ }
+    ensures { λ r. ⌜ ((g : AllTypes (now (targets .entry)) (now (kinds .entry)) n) → FirstBad (λ i. typeKind (g .routine) (g .marking) (suc i)) n r) ⌝ }
 {
     let mut i = 0;
     while i < n {
-        if !type_ok(targets, marks, (i + 1) as u8) {
+        if !type_ok(targets, kinds, (i + 1) as u8) {
             return i;
         }
         i += 1;
@@ -219,16 +174,16 @@ fn bad_expr(
     at: Starts,
     types: &[u16; 1024],
     targets: &[u8; 256],
-    marks: &[u8; 256],
+    kinds: &[u8; 256],
     n: usize,
 ) -> usize
-    requires { ⌜ MarkedFile (now file) at (now types) (now targets) (now marks) × (n ≡ half (now file) (at .exprs)) ⌝ }
-    ensures { λ r. ⌜ ((g : MarkedFile (now (file .entry)) at (now (types .entry)) (now (targets .entry)) (now (marks .entry))) → FirstBad (λ e. exprKind (routine (now (file .entry)) at) (g .marking) (routine (now (file .entry)) at .expr e)) n r) ⌝ }
+    requires { ⌜ MarkedFile (now file) at (now types) (now targets) (now kinds) × (n ≡ half (now file) (at .exprs)) ⌝ }
+    ensures { λ r. ⌜ ((g : MarkedFile (now (file .entry)) at (now (types .entry)) (now (targets .entry)) (now (kinds .entry))) → FirstBad (λ e. exprKind (routine (now (file .entry)) at) (g .marking) (routine (now (file .entry)) at .expr e)) n r) ⌝ }
 {
     let mut i = 0;
     while i < n {
         let need = expr_need(file, at, types, i);
-        if !met(targets, marks, need) {
+        if !met(targets, kinds, need) {
             return i;
         }
         i += 1;
@@ -242,16 +197,16 @@ fn bad_command(
     at: Starts,
     types: &[u16; 1024],
     targets: &[u8; 256],
-    marks: &[u8; 256],
+    kinds: &[u8; 256],
     n: usize,
 ) -> usize
-    requires { ⌜ MarkedFile (now file) at (now types) (now targets) (now marks) × (n ≡ half (now file) (at .commands)) ⌝ }
-    ensures { λ r. ⌜ ((g : MarkedFile (now (file .entry)) at (now (types .entry)) (now (targets .entry)) (now (marks .entry))) → FirstBad (λ c. commandKind (routine (now (file .entry)) at) (g .marking) (routine (now (file .entry)) at .command c)) n r) ⌝ }
+    requires { ⌜ MarkedFile (now file) at (now types) (now targets) (now kinds) × (n ≡ half (now file) (at .commands)) ⌝ }
+    ensures { λ r. ⌜ ((g : MarkedFile (now (file .entry)) at (now (types .entry)) (now (targets .entry)) (now (kinds .entry))) → FirstBad (λ c. commandKind (routine (now (file .entry)) at) (g .marking) (routine (now (file .entry)) at .command c)) n r) ⌝ }
 {
     let mut i = 0;
     while i < n {
         let need = command_need(file, at, types, i);
-        if !met(targets, marks, need) {
+        if !met(targets, kinds, need) {
             return i;
         }
         i += 1;
@@ -259,15 +214,15 @@ fn bad_command(
     i
 }
 
-// The bytes of a marking, each at its type's number: a table of fixed length keeps comparing types in registers.
-fn fill_marks(marking: &[u8], marks: &mut [u8; 256])
-    requires { ⌜ (length (now marking) ≤ 255) × (length (now marks) ≡ 256) ⌝ }
-    ensures { λ _. ⌜ MarksOf (now (marking .entry)) (length (now (marking .entry))) (now (marks .exit)) ⌝ }
+// The kinds of a marking's types, each at its type's number. A table of fixed length keeps comparing types in registers.
+fn fill_kinds(marking: &[u8], kinds: &mut [u8; 256])
+    requires { ⌜ Marked (now marking) × (length (now kinds) ≡ 256) × (getD (now kinds) 0 0 ≡ 0) ⌝ }
+    ensures { λ _. ⌜ KindsOf (now (marking .entry)) (length (now (marking .entry))) (now (kinds .exit)) ⌝ }
 {
     let n = marking.len();
     let mut i: usize = 0;
     while i < n {
-        marks[i + 1] = marking[i];
+        kinds[i + 1] = marking[i] + 1;
         i += 1;
     }
 }
@@ -312,24 +267,24 @@ fn judge_rows(
     at: Starts,
     types: &[u16; 1024],
     targets: &[u8; 256],
-    marks: &[u8; 256],
+    kinds: &[u8; 256],
     n: Counts,
 ) -> ReadAnswer
-    requires { ⌜ MarkedFile (now file) at (now types) (now targets) (now marks) × (n ≡ countsOf (now file) at) ⌝ }
-    ensures { λ r. ⌜ ((g : MarkedFile (now (file .entry)) at (now (types .entry)) (now (targets .entry)) (now (marks .entry))) → readSays r ≡ breaking (routine (now (file .entry)) at) (g .marking) at) ⌝ }
+    requires { ⌜ MarkedFile (now file) at (now types) (now targets) (now kinds) × (n ≡ countsOf (now file) at) ⌝ }
+    ensures { λ r. ⌜ ((g : MarkedFile (now (file .entry)) at (now (types .entry)) (now (targets .entry)) (now (kinds .entry))) → readSays r ≡ breaking (routine (now (file .entry)) at) (g .marking) at) ⌝ }
 {
     let n_types = wide(n.types);
-    let t = bad_type(targets, marks, n_types);
+    let t = bad_type(targets, kinds, n_types);
     if t < n_types {
         return refuse(8, type_place(at, t));
     }
     let n_exprs = wide(n.exprs);
-    let e = bad_expr(file, at, types, targets, marks, n_exprs);
+    let e = bad_expr(file, at, types, targets, kinds, n_exprs);
     if e < n_exprs {
         return refuse(8, expr_place(at, e));
     }
     let n_commands = wide(n.commands);
-    let c = bad_command(file, at, types, targets, marks, n_commands);
+    let c = bad_command(file, at, types, targets, kinds, n_commands);
     if c < n_commands {
         return refuse(8, command_place(at, c));
     }
@@ -355,10 +310,10 @@ fn judge(file: &[u8], at: Starts, types: &[u16; 1024], marking: &[u8]) -> ReadAn
         return refuse(7, b as u32);
     }
     let mut targets = [0u8; 256];
-    let mut marks = [0u8; 256];
+    let mut kinds = [0u8; 256];
     targets::fill(file, at, n, &mut targets);
-    fill_marks(marking, &mut marks);
-    judge_rows(file, at, types, &targets, &marks, counts)
+    fill_kinds(marking, &mut kinds);
+    judge_rows(file, at, types, &targets, &kinds, counts)
 }
 
 // Refusals 1 to 8 and 10; and in `types` the types of the expression rows of a file that earns none of 1 to 5.

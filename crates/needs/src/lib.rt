@@ -11,7 +11,7 @@ ghost use Rattle.rules.specs.Kinds.{kind, kindOf, exprNeed, commandNeed};
 ghost use Rattle.needs.specs.Typed.{Typed};
 
 // The kind of a marking's byte. A byte above 2 is no kind; DYNAMIC stands in.
-pub fn kind_by(byte: u8) -> Kind
+fn kind_by(byte: u8) -> Kind
     ensures { λ r. ⌜ r ≡ kindOf byte ⌝ }
 {
     match byte {

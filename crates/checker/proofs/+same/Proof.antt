@@ -1,7 +1,7 @@
 -- Two types are equal exactly if the code says so: each way out is a clause of the definition, one target down.
 use native.Mathlib.Omega.{arith}
-use mathlib.Core.Path.{_∙_}
-use Rattle.checker.proofs.KindLaws.{one-type, int-first, int-second, bytes-differ, no-deeper, falling, targets-of, one-down}
+use mathlib.Core.Path.{refl, _∙_}
+use Rattle.checker.proofs.KindLaws.{one-type, kinds-differ, no-deeper, falling, targets-of, one-down}
 use Prim.Native.Nat.{ℕ, _<_}
 use borrow.Fn.Kinds.{In}
 use borrow.Fn.PlainCycle.{Measures, is, falls, and}
@@ -23,25 +23,22 @@ same-below t = and 2 same-kinds.ps (falls 2 same-kinds.ps _<_ μ-same t) same.Pr
 same-returns : (t : ℕ) → same-lts.Need-returns (same-below t, same.Post) (same-at t) same.Post
 same-returns t c = λ g. one-type g (c .if1 .taken)
 
-same-returns-2 : (t : ℕ) → same-lts.Need-returns-2 (same-below t, same.Post) (same-at t) same.Post
-same-returns-2 t c = λ g. int-first g (c .before .if1 .left) (c .if2 .taken)
-
-same-returns-3 : (t : ℕ) → same-lts.Need-returns-3 (same-below t, same.Post) (same-at t) same.Post
-same-returns-3 t c = λ g. int-second g (c .before .if2 .left) (c .if3 .taken)
-
 same-element-copy-out-k :
     (t : ℕ) → same-lts.Need-element-copy-out-k (same-below t, same.Post) (same-at t) same.Post
 same-element-copy-out-k t c = omega arith
 
-same-element-copy-out-if4 :
-    (t : ℕ) → same-lts.Need-element-copy-out-if4 (same-below t, same.Post) (same-at t) same.Post
-same-element-copy-out-if4 t c = omega arith
+same-element-copy-out-if2 :
+    (t : ℕ) → same-lts.Need-element-copy-out-if2 (same-below t, same.Post) (same-at t) same.Post
+same-element-copy-out-if2 t c = omega arith
+
+same-returns-2 : (t : ℕ) → same-lts.Need-returns-2 (same-below t, same.Post) (same-at t) same.Post
+same-returns-2 t c = λ g. kinds-differ g (c .if2 .taken)
+
+same-returns-3 : (t : ℕ) → same-lts.Need-returns-3 (same-below t, same.Post) (same-at t) same.Post
+same-returns-3 t c = λ g. no-deeper g (c .before .if2 .left) 0 refl (c .if3 .taken)
 
 same-returns-4 : (t : ℕ) → same-lts.Need-returns-4 (same-below t, same.Post) (same-at t) same.Post
-same-returns-4 t c = λ g. bytes-differ g (c .before .before .before .before .if2 .left) (c .before .before .before .if3 .left) (c .if4 .taken)
-
-same-returns-5 : (t : ℕ) → same-lts.Need-returns-5 (same-below t, same.Post) (same-at t) same.Post
-same-returns-5 t c = λ g. no-deeper g (c .before .before .before .before .before .if2 .left) (c .before .before .before .before .if3 .left) (c .before .if4 .left) (c .if5 .taken)
+same-returns-4 t c = λ g. no-deeper g (c .before .before .if2 .left) 3 refl (c .if4 .taken)
 
 same-element-copy-out-same : (t : ℕ) → same-lts.Need-element-copy-out-same (
   same-below t,
@@ -57,10 +54,10 @@ same-element-copy-out-same-2 t c = omega arith
 
 same-same-requires :
     (t : ℕ) → same-lts.Need-same-requires (same-below t, same.Post) (same-at t) same.Post
-same-same-requires t c κs = (omega (arith, falling (c .before .before .before .before .before .before .before .before .before .pre .1) (c .before .before .before .before .before .before .before .if2 .left) (c .before .before .before .before .before .before .if3 .left) (c .before .before .before .if4 .left), c .before .before .before .before .before .before .before .before .before .pre .0), targets-of (c .before .before .before .before .before .before .before .before .before .pre .1) (c .before .before .before .before .before .before .before .if2 .left) (c .before .before .before .before .before .before .if3 .left) (c .before .before .before .if4 .left))
+same-same-requires t c κs = (omega (arith, falling (c .before .before .before .before .before .before .before .before .pre .1) (c .before .before .before .before .if2 .left) (c .before .before .before .if3 .left), c .before .before .before .before .before .before .before .before .pre .0), targets-of (c .before .before .before .before .before .before .before .before .pre .1) (c .before .before .before .before .if2 .left) (c .before .before .before .if3 .left))
 
-same-returns-6 : (t : ℕ) → same-lts.Need-returns-6 (same-below t, same.Post) (same-at t) same.Post
-same-returns-6 t c = λ g. c .same .ensures (targets-of g (c .before .before .before .before .before .before .before .before .if2 .left) (c .before .before .before .before .before .before .before .if3 .left) (c .before .before .before .before .if4 .left)) ∙ one-down g (c .before .before .before .before .before .before .before .before .if2 .left) (c .before .before .before .before .before .before .before .if3 .left) (c .before .before .before .before .if4 .left) (c .before .before .before .if5 .left)
+same-returns-5 : (t : ℕ) → same-lts.Need-returns-5 (same-below t, same.Post) (same-at t) same.Post
+same-returns-5 t c = λ g. c .same .ensures (targets-of g (c .before .before .before .before .before .if2 .left) (c .before .before .before .before .if3 .left)) ∙ one-down g (c .before .before .before .before .before .if2 .left) (c .before .before .before .before .if3 .left) (c .before .before .before .if4 .left)
 
 pub +same-spec : {M : Type 1} → statement M
 +same-spec =
@@ -71,13 +68,12 @@ pub +same-spec : {M : Type 1} → statement M
     (same-at t)
     same.Post
     (same-returns t)
+    (same-element-copy-out-k t)
+    (same-element-copy-out-if2 t)
     (same-returns-2 t)
     (same-returns-3 t)
-    (same-element-copy-out-k t)
-    (same-element-copy-out-if4 t)
     (same-returns-4 t)
-    (same-returns-5 t)
     (same-element-copy-out-same t)
     (same-element-copy-out-same-2 t)
     (same-same-requires t)
-    (same-returns-6 t)
+    (same-returns-5 t)

@@ -15,10 +15,10 @@ use Rattle.checker.proofs.met.Reads as met-reads
 use Rattle.needs.proofs.command_need.Reads as command-need-reads
 
 abbrev Inv-loop : tie.InvT-loop
-Inv-loop file at types targets marks n i₀ i = (i ≤ n) × ((g : MarkedFile file at types targets marks) → Passed (λ c. commandKind (routine file at) (g .marking) (routine file at .command c)) i)
+Inv-loop file at types targets kinds n i₀ i = (i ≤ n) × ((g : MarkedFile file at types targets kinds) → Passed (λ c. commandKind (routine file at) (g .marking) (routine file at .command c)) i)
 
 abbrev μ-loop : tie.MeasureT-loop
-μ-loop file at types targets marks n i₀ i = n - i
+μ-loop file at types targets kinds n i₀ i = n - i
 
 loop-holds : tie.Need-loop-holds Inv-loop μ-loop
 loop-holds c = (omega arith, λ g. passed-none _)

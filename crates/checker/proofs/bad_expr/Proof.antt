@@ -15,10 +15,10 @@ use Rattle.checker.proofs.met.Reads as met-reads
 use Rattle.needs.proofs.expr_need.Reads as expr-need-reads
 
 abbrev Inv-loop : tie.InvT-loop
-Inv-loop file at types targets marks n i₀ i = (i ≤ n) × ((g : MarkedFile file at types targets marks) → Passed (λ e. exprKind (routine file at) (g .marking) (routine file at .expr e)) i)
+Inv-loop file at types targets kinds n i₀ i = (i ≤ n) × ((g : MarkedFile file at types targets kinds) → Passed (λ e. exprKind (routine file at) (g .marking) (routine file at .expr e)) i)
 
 abbrev μ-loop : tie.MeasureT-loop
-μ-loop file at types targets marks n i₀ i = n - i
+μ-loop file at types targets kinds n i₀ i = n - i
 
 loop-holds : tie.Need-loop-holds Inv-loop μ-loop
 loop-holds c = (omega arith, λ g. passed-none _)

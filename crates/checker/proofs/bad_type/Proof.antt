@@ -13,10 +13,10 @@ use Rattle.checker.proofs.bad_type.Lts as lts
 use Rattle.checker.proofs.type_ok.Reads as type-ok-reads
 
 abbrev Inv-loop : tie.InvT-loop
-Inv-loop targets marks n i₀ i = (i ≤ n) × ((g : AllTypes targets marks n) → Passed (λ j. typeKind (g .routine) (g .marking) (suc j)) i)
+Inv-loop targets kinds n i₀ i = (i ≤ n) × ((g : AllTypes targets kinds n) → Passed (λ j. typeKind (g .routine) (g .marking) (suc j)) i)
 
 abbrev μ-loop : tie.MeasureT-loop
-μ-loop targets marks n i₀ i = n - i
+μ-loop targets kinds n i₀ i = n - i
 
 loop-holds : tie.Need-loop-holds Inv-loop μ-loop
 loop-holds c = (omega arith, λ g. passed-none _)

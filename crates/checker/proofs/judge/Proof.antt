@@ -3,14 +3,14 @@ use mathlib.Core.Path.{refl, ap, _∙_}
 use native.Mathlib.Omega.{arith}
 use Rattle.rules.specs.Calls.{readSays}
 use Rattle.view.specs.declared.Counts.{Counts}
-use Rattle.checker.proofs.JudgeLaws.{too-short, too-long, byte-fails, marked-file, rows-decide}
+use Rattle.checker.proofs.JudgeLaws.{too-short, too-long, byte-fails, marked-bytes, marked-file, rows-decide}
 use borrow.Author.Needs.{needs}
 use Rattle.checker.proofs.judge.Statement.{statement}
 use Rattle.checker.proofs.judge.Tie as tie
 use Rattle.checker.proofs.judge.Reads as reads
 use Rattle.checker.proofs.judge.Lts as lts
 use Rattle.checker.proofs.bad_byte.Reads as bad-byte-reads
-use Rattle.checker.proofs.fill_marks.Reads as fill-marks-reads
+use Rattle.checker.proofs.fill_kinds.Reads as fill-kinds-reads
 use Rattle.checker.proofs.judge_rows.Reads as judge-rows-reads
 use Rattle.checker.proofs.refuse.Reads as refuse-reads
 use Rattle.checker.proofs.wide.Reads as wide-reads
@@ -56,14 +56,14 @@ returns-3 c = ap readSays (c .refuse3 .ensures) ∙ byte-fails _ (c .before .bef
 fill-requires : tie.Need-fill-requires
 fill-requires c κs = (c .before .before .before .before .before .before .before .before .before .pre .file, c .before .before .before .before .before .wide .ensures ∙ ap (λ (x : Counts). x .types) (c .before .before .before .before .before .before .row-counts .ensures), refl)
 
-fill-marks-requires : tie.Need-fill-marks-requires
-fill-marks-requires c κs = (omega (arith, c .before .before .before .before .before .if2 .left, (c .before .before .before .before .before .before .before .wide .ensures ∙ ap (λ (x : Counts). x .types) (c .before .before .before .before .before .before .before .before .row-counts .ensures)), c .before .before .before .before .before .before .before .before .before .before .before .pre .file .types .few), refl)
+fill-kinds-requires : tie.Need-fill-kinds-requires
+fill-kinds-requires c κs = (marked-bytes _ (c .before .before .before .before .before .before .before .before .before .before .before .pre) (c .before .before .before .before .before .before .before .wide .ensures ∙ ap (λ (x : Counts). x .types) (c .before .before .before .before .before .before .before .before .row-counts .ensures)) (c .before .before .before .before .before .before .if1 .left) (c .before .before .before .before .before .if2 .left) (c .before .before .before .before .bad-byte .ensures) (c .before .before .before .if3 .left), refl, refl)
 
 judge-rows-requires : tie.Need-judge-rows-requires
-judge-rows-requires c κs = (marked-file _ (c .before .before .before .before .before .before .before .before .before .before .before .before .before .before .pre) (c .before .before .before .before .before .before .before .before .before .before .wide .ensures ∙ ap (λ (x : Counts). x .types) (c .before .before .before .before .before .before .before .before .before .before .before .row-counts .ensures)) (c .before .before .before .before .before .before .before .before .before .if1 .left) (c .before .before .before .before .before .before .before .before .if2 .left) (c .before .before .before .before .before .before .before .bad-byte .ensures) (c .before .before .before .before .before .before .if3 .left) (c .before .before .before .before .fill .ensures) (c .before .before .fill-marks .ensures), c .before .before .before .before .before .before .before .before .before .before .before .row-counts .ensures)
+judge-rows-requires c κs = (marked-file _ (c .before .before .before .before .before .before .before .before .before .before .before .before .before .before .pre) (c .before .before .before .before .before .before .before .before .before .before .wide .ensures ∙ ap (λ (x : Counts). x .types) (c .before .before .before .before .before .before .before .before .before .before .before .row-counts .ensures)) (c .before .before .before .before .before .before .before .before .before .if1 .left) (c .before .before .before .before .before .before .before .before .if2 .left) (c .before .before .before .before .before .before .before .bad-byte .ensures) (c .before .before .before .before .before .before .if3 .left) (c .before .before .before .before .fill .ensures) (c .before .before .fill-kinds .ensures), c .before .before .before .before .before .before .before .before .before .before .before .row-counts .ensures)
 
 returns-4 : tie.Need-returns-4
-returns-4 c = rows-decide _ (c .before .before .before .before .before .before .before .before .before .before .before .before .before .before .before .pre) (c .before .before .before .before .before .before .before .before .before .before .before .wide .ensures ∙ ap (λ (x : Counts). x .types) (c .before .before .before .before .before .before .before .before .before .before .before .before .row-counts .ensures)) (c .before .before .before .before .before .before .before .before .before .before .if1 .left) (c .before .before .before .before .before .before .before .before .before .if2 .left) (c .before .before .before .before .before .before .before .before .bad-byte .ensures) (c .before .before .before .before .before .before .before .if3 .left) (c .before .before .before .before .before .fill .ensures) (c .before .before .before .fill-marks .ensures) (c .judge-rows .ensures)
+returns-4 c = rows-decide _ (c .before .before .before .before .before .before .before .before .before .before .before .before .before .before .before .pre) (c .before .before .before .before .before .before .before .before .before .before .before .wide .ensures ∙ ap (λ (x : Counts). x .types) (c .before .before .before .before .before .before .before .before .before .before .before .before .row-counts .ensures)) (c .before .before .before .before .before .before .before .before .before .before .if1 .left) (c .before .before .before .before .before .before .before .before .before .if2 .left) (c .before .before .before .before .before .before .before .before .bad-byte .ensures) (c .before .before .before .before .before .before .before .if3 .left) (c .before .before .before .before .before .fill .ensures) (c .before .before .before .fill-kinds .ensures) (c .judge-rows .ensures)
 
 pub judge-spec : {M : Type 1} → statement M
 judge-spec =
@@ -82,6 +82,6 @@ judge-spec =
     refuse-requires-3
     returns-3
     fill-requires
-    fill-marks-requires
+    fill-kinds-requires
     judge-rows-requires
     returns-4)

@@ -7,7 +7,6 @@ use Rattle.checker.proofs.met.Reads as reads
 use Rattle.checker.proofs.met.Lts as lts
 use Rattle.checker.proofs.converts.Reads as converts-reads
 use Rattle.checker.proofs.kind_at.Reads as kind-at-reads
-use Rattle.checker.proofs.not_safe.Reads as not-safe-reads
 
 enum-told : tie.Need-enum-told
 enum-told c = search needs
@@ -17,9 +16,6 @@ enum-known-need c = search needs
 
 kind-at-requires : tie.Need-kind-at-requires
 kind-at-requires c κs = search needs
-
-not-safe-requires : tie.Need-not-safe-requires
-not-safe-requires c κs = search needs
 
 enum-known-need-2 : tie.Need-enum-known-need-2
 enum-known-need-2 c = search needs
@@ -31,7 +27,7 @@ returns : tie.Need-returns
 returns c = λ g. nothing-decides g (c .before .match .keys1)
 
 returns-2 : tie.Need-returns-2
-returns-2 c = λ g. moving-decides g (c .before .before .before .need .given .1) (c .before .kind-at .ensures) (c .not-safe .ensures)
+returns-2 c = λ g. moving-decides g (c .before .before .need .given .1) (c .kind-at .ensures .0)
 
 returns-3 : tie.Need-returns-3
 returns-3 c = λ g. converting-decides g (c .before .before .need2 .given .1) (c .converts .ensures)
@@ -43,7 +39,6 @@ met-spec =
     enum-told
     enum-known-need
     kind-at-requires
-    not-safe-requires
     enum-known-need-2
     converts-requires
     returns
