@@ -9,6 +9,7 @@ use Rattle.rules.specs.Table.{Operator}
 use Rattle.rules.specs.Shape.{homeAt}
 use Rattle.rules.specs.declared.Kind.{Kind}
 use Rattle.rules.specs.declared.Kind.the-variants.{int, SAFE, SEQ, DYNAMIC}
+use Rattle.rules.specs.Kinds.{byKind}
 use Rattle.rules.specs.Memory.{State, address, size, held}
 use Rattle.rules.specs.Ruled.{Ruled, gives, fails, stuck, onward, must, check1, check2, check3}
 use Rattle.rules.specs.Operators.{applied}
@@ -77,20 +78,14 @@ abbrev pub fetched : State → Kind → Kind → Value → Ruled Value
 fetched w int target v = gives v
 fetched w SAFE target v = gives v
 fetched w SEQ target v = gives v
-fetched w DYNAMIC int v = convert w int v
-fetched w DYNAMIC SAFE v = gives v
-fetched w DYNAMIC SEQ v = gives v
-fetched w DYNAMIC DYNAMIC v = gives v
+fetched w DYNAMIC target v = byKind (convert w int v) (gives v) (gives v) (gives v) target
 
 -- A converted value as it is stored: through DYNAMIC an int becomes a pair of home 0.
 abbrev pub paired : State → Kind → Kind → Value → Ruled Value
 paired w int target v = gives v
 paired w SAFE target v = gives v
 paired w SEQ target v = gives v
-paired w DYNAMIC int v = convert w DYNAMIC v
-paired w DYNAMIC SAFE v = gives v
-paired w DYNAMIC SEQ v = gives v
-paired w DYNAMIC DYNAMIC v = gives v
+paired w DYNAMIC target v = byKind (convert w DYNAMIC v) (gives v) (gives v) (gives v) target
 
 abbrev pub kept : State → Kind → Kind → Value → Ruled Value
 kept w pointer target v = onward (convert w target v) λ u. paired w pointer target u
