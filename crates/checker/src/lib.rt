@@ -1,4 +1,5 @@
 // The checker: whether a marking is acceptable, refusals 7 and 8.
+#![tactic(auto)]
 ghost use Rattle.std.specs.Prelude.{◌≡◌, ℕ, suc, ◌+◌, ◌≤◌, ◌<◌, length, get_or, leb};
 ghost use Rattle.rules.specs.Kinds.{kinds, kind_converts, targets_matter, need_met, type_kind, expr_kind, command_kind};
 ghost use Rattle.rules.specs.Basic.{half, fine};

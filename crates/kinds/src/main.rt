@@ -1,5 +1,6 @@
 // Reads one routine file on standard input and runs it under its inferred marking with fuel 1,000,000.
 // It prints a line for each type, number and kind, then outcome, place and units; or only a refusal, number and place.
+#![tactic(auto)]
 use libc::{STDIN_FILENO, STDOUT_FILENO};
 use rules::{InferAnswer, Outcome, Refusal, Report, RunAnswer};
 

@@ -1,4 +1,5 @@
 // What is promised of the rules, and the proofs that no code cites, stand in specs/. This crate has no code.
+#![tactic(auto)]
 #[derive(Drop)]
 pub struct Nothing {
     pub zero: u8,

@@ -19,4 +19,3 @@ pub mod Made
 pub mod Calls
 pub mod Tests
 pub mod Tested
-pub mod Cases

@@ -41,7 +41,7 @@ scan_passes judge i (suc n) go h =
 
 pub good_scan : {X : Type 0} (number : ℕ) (good : ℕ → Bool) (place : ℕ → ℕ) (i n : ℕ) (go : Unit {0} → Verdict X)
     → ((j : ℕ) → i ≤ j → j < i + n → good j ≡ true) → first_bad number good place i n go ≡ go tt
-good_scan number good place i n go h = scan_passes _ i n go (λ j k l u. rw (h j l u))
+good_scan number good place i n go h = scan_passes (λ j. guard number (place j) (good j)) i n go (λ j k l u. rw (h j l u))
 
 pub all_good : {X : Type 0} (number : ℕ) (good : ℕ → Bool) (place : ℕ → ℕ) (n : ℕ) (go : Unit {0} → Verdict X)
     → ((j : ℕ) → j < n → good j ≡ true) → first_bad number good place 0 n go ≡ go tt

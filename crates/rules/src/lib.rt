@@ -1,4 +1,5 @@
 // The types that code and definitions share: run-time values, kinds, what rows ask of them, sections, and the answers of the calls.
+#![tactic(auto)]
 
 // A run-time value: a plain number, or the pair of a home number and an offset.
 #[derive(Drop)]

@@ -8,12 +8,12 @@ pub mod Kinds
 pub mod Values
 pub mod Running
 use Rattle.std.specs.Prelude.{List, [], ◌∷◌, ◌++◌, map}
-use Rattle.rules.specs.Cases.Scope.{scope}
-use Rattle.rules.specs.Cases.Reading.{start_rows, counts, sizes, expr_rows, command_rows, shapes}
-use Rattle.rules.specs.Cases.Kinds.{lengths, conversions, targets, others, firsts, lending, least}
-use Rattle.rules.specs.Cases.Values.{operators, converted, accesses, stuck_forms}
-use Rattle.rules.specs.Cases.Running.{stores, fresh, flow, stuck_runs, in_order, answers}
-use Rattle.rules.specs.Cases.Rows.{Case, Holds, Row}
+use Rattle.rules.proofs.Cases.Scope.{scope}
+use Rattle.rules.proofs.Cases.Reading.{start_rows, counts, sizes, expr_rows, command_rows, shapes}
+use Rattle.rules.proofs.Cases.Kinds.{lengths, conversions, targets, others, firsts, lending, least}
+use Rattle.rules.proofs.Cases.Values.{operators, converted, accesses, stuck_forms}
+use Rattle.rules.proofs.Cases.Running.{stores, fresh, flow, stuck_runs, in_order, answers}
+use Rattle.rules.proofs.Cases.Rows.{Case, Holds, Row}
 
 abbrev pub table : List Row
 table =

@@ -1,0 +1,2 @@
+-- The cases that the rules are held to.
+pub mod Cases
