@@ -1,0 +1,24 @@
+use mathlib.Core.Path.{◌∙◌}
+use borrow.Author.Tests.{not-true, not-false}
+use Rattle.raise.specs.Demands.{tables_size, lists_size}
+use Rattle.raise.specs.Moves.{room, Raises, raises_none, raises_more, raises_rests, room_falls}
+use native.Mathlib.Omega.{arith}
+use Rattle.raise.proofs.settle.Goals as goal
+
+pub loop-moved-init : goal.loop-moved-init
+loop-moved-init c = raises_none
+
+pub pass-moved-requires : goal.pass-moved-requires
+pass-moved-requires c = (omega (arith, c.requires.0, c.loop-moved.invariant.size), tables_size c.loop-moved.invariant.size c.requires.1, lists_size c.loop-moved.invariant.size c.requires.2)
+
+pub shape_of-m-then-not-moved : goal.shape_of-m-then-not-moved
+shape_of-m-then-not-moved c = c.pass-moved.ensures.size ∙ c.loop-moved.invariant.size
+
+pub returns-then-not-moved : goal.returns-then-not-moved
+returns-then-not-moved c = raises_rests c.loop-moved.invariant.size c.loop-moved.invariant c.pass-moved.ensures (not-true _ c.if-not-moved.true-raw)
+
+pub loop-moved-smaller : goal.loop-moved-smaller
+loop-moved-smaller c = room_falls c.pass-moved.ensures (not-false _ c.if-not-moved.false-raw)
+
+pub loop-moved-preserved : goal.loop-moved-preserved
+loop-moved-preserved c = raises_more c.loop-moved.invariant.size c.loop-moved.invariant c.pass-moved.ensures
