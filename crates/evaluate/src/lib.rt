@@ -10,20 +10,20 @@ use values::Found;
 use words::{WORDS, a_of, high, op_of, ops};
 
 // A value, beside the fuel left.
-#[derive(Drop)]
+#[derive(Clone, Copy)]
 pub struct Got {
     pub left: u32,
     pub value: Value,
 }
 
 // No fuel for a row; or a check's number, its row and the fuel left. Rows are numbered as in the table.
-#[derive(Drop)]
+#[derive(Clone, Copy)]
 pub enum Stop {
     Fuel(u32),
     Check(u32, u32, u32),
 }
 
-#[derive(Drop)]
+#[derive(Clone, Copy)]
 pub enum Answer {
     Done(Got),
     Stopped(Stop),

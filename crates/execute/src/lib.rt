@@ -9,7 +9,7 @@ use values::{Entry, Found};
 use words::{COMMANDS, WORDS, a_of, b_of, c_of, d_of, op_of, ops};
 
 // The fuel left; or no fuel for a row; or a check's number, its row and the fuel left. Rows are numbered as in the table.
-#[derive(Drop)]
+#[derive(Clone, Copy)]
 pub enum Ran {
     Done(u32),
     Fuel(u32),

@@ -8,7 +8,7 @@ ghost use Rattle.links.specs.Links.{Stepped, Linked, Turned, Joined};
 use raise::at_least;
 
 // Two types to link.
-#[derive(Drop)]
+#[derive(Clone, Copy)]
 pub struct Pair {
     pub a: u8,
     pub b: u8,

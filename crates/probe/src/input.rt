@@ -2,7 +2,7 @@
 use libc::STDIN_FILENO;
 
 // A number that was read whole, or the input's end.
-#[derive(Drop)]
+#[derive(Clone, Copy)]
 pub enum Number {
     Is(u64),
     Cut,

@@ -34,7 +34,7 @@ fn put_bad(out: &mut [u8], at: usize, offset: u64) -> usize {
 }
 
 // Where a turn leaves the program: whether it goes on, how much of the output is filled, and the bytes read so far.
-#[derive(Drop)]
+#[derive(Clone, Copy)]
 struct Turn {
     go: bool,
     at: usize,

@@ -7,7 +7,7 @@ use crate::lines::put;
 use libc::STDIN_FILENO;
 
 // A request that was answered: the bytes that it took, and how much of the output is filled; or one that is bad.
-#[derive(Drop)]
+#[derive(Clone, Copy)]
 pub enum Answered {
     Line(u64, usize),
     Bad,
@@ -86,7 +86,7 @@ pub fn answer_read(file: &mut [u8], out: &mut [u8], at: usize) -> Answered {
 }
 
 // The lengths of a file and a marking that were read; or they are cut.
-#[derive(Drop)]
+#[derive(Clone, Copy)]
 enum Two {
     Are(usize, usize),
     Cut,
@@ -154,7 +154,7 @@ fn put_run(
 }
 
 // The fuel and the number of entries of an `X`; or they are cut.
-#[derive(Drop)]
+#[derive(Clone, Copy)]
 enum Rest {
     Is(u32, usize),
     Cut,

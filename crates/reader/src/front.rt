@@ -10,7 +10,7 @@ use super::range::{half_at, in_range, row_good};
 use rules::{ReadAnswer, Refusal, Section, Starts};
 
 // How a part of the reading ends: at the place behind it, with a count of rows; or in a refusal.
-#[derive(Drop)]
+#[derive(Clone, Copy)]
 pub enum Step {
     Next(usize, usize),
     No(Refusal),

@@ -16,7 +16,7 @@ use view::{
 };
 
 // What rows are judged for, in this order: that start rows rise; the shape of expressions, of commands and of start rows.
-#[derive(Drop)]
+#[derive(Clone, Copy)]
 pub enum Test {
     Rising,
     Exprs,

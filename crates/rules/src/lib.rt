@@ -2,14 +2,14 @@
 #![tactic(auto)]
 
 // A run-time value: a plain number, or the pair of a home number and an offset.
-#[derive(Drop)]
+#[derive(Clone, Copy)]
 pub enum Value {
     Number(u32),
     Pair(u32, u32),
 }
 
 // A reference's kind, or `int` for the type that has none.
-#[derive(Drop)]
+#[derive(Clone, Copy)]
 pub enum Kind {
     int,
     SAFE,
@@ -18,7 +18,7 @@ pub enum Kind {
 }
 
 // What a row asks of kinds: nothing; that this type is not SAFE; that the first type converts to the second.
-#[derive(Drop)]
+#[derive(Clone, Copy)]
 pub enum Need {
     Nothing,
     Moving(u8),
@@ -26,7 +26,7 @@ pub enum Need {
 }
 
 // A section of the file, with what its rows are judged by: the counts of types, then homes, and of expressions; the place of the homes' count.
-#[derive(Drop)]
+#[derive(Clone, Copy)]
 pub enum Section {
     Types,
     Homes(usize),
@@ -36,7 +36,7 @@ pub enum Section {
 }
 
 // The places of the five sections' counts. `values` is the file's end where it has no start values.
-#[derive(Drop)]
+#[derive(Clone, Copy)]
 pub struct Starts {
     pub types: u32,
     pub homes: u32,
@@ -46,35 +46,35 @@ pub struct Starts {
 }
 
 // A refusal's number, 1 to 10, and its place.
-#[derive(Drop)]
+#[derive(Clone, Copy)]
 pub struct Refusal {
     pub number: u32,
     pub place: u32,
 }
 
 // What reading a file answers.
-#[derive(Drop)]
+#[derive(Clone, Copy)]
 pub enum ReadAnswer {
     WellFormed(Starts),
     Refused(Refusal),
 }
 
 // What checking a marking answers.
-#[derive(Drop)]
+#[derive(Clone, Copy)]
 pub enum CheckAnswer {
     Accepted,
     Refused(Refusal),
 }
 
 // What inference answers, beside the lent marking.
-#[derive(Drop)]
+#[derive(Clone, Copy)]
 pub enum InferAnswer {
     Marked,
     Refused(Refusal),
 }
 
 // How a run ends: done; no fuel for the row at a place; a check's number and the place of the row that made it.
-#[derive(Drop)]
+#[derive(Clone, Copy)]
 pub enum Outcome {
     Done,
     Fuel(u32),
@@ -82,14 +82,14 @@ pub enum Outcome {
 }
 
 // A run's outcome and the units that it spent.
-#[derive(Drop)]
+#[derive(Clone, Copy)]
 pub struct Report {
     pub outcome: Outcome,
     pub units: u32,
 }
 
 // What a run answers, beside the lent memory.
-#[derive(Drop)]
+#[derive(Clone, Copy)]
 pub enum RunAnswer {
     Ran(Report),
     Refused(Refusal),

@@ -9,7 +9,7 @@ use rules::{CheckAnswer, InferAnswer, Outcome, ReadAnswer, Report, RunAnswer};
 
 // What was refused, and where; number 0 where nothing was.
 #[repr(C)]
-#[derive(Drop)]
+#[derive(Clone, Copy)]
 pub struct Answer {
     pub number: u32,
     pub place: u32,
@@ -17,7 +17,7 @@ pub struct Answer {
 
 // The same, with a run's outcome and units.
 #[repr(C)]
-#[derive(Drop)]
+#[derive(Clone, Copy)]
 pub struct Ran {
     pub number: u32,
     pub place: u32,

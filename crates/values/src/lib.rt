@@ -11,14 +11,14 @@ use rules::Value;
 use words::{WORDS, high, low, of_halves, ops, size_of, start_of};
 
 // A number that a rule gives, or the check that fails.
-#[derive(Drop)]
+#[derive(Clone, Copy)]
 pub enum Found {
     Is(u32),
     Fails(u32),
 }
 
 // An entry that a store keeps, or the check that fails.
-#[derive(Drop)]
+#[derive(Clone, Copy)]
 pub enum Entry {
     Is(u64),
     Fails(u32),

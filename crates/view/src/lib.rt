@@ -10,20 +10,20 @@ ghost use Rattle.view.specs.Rows.{type_row, home_row, expr_row, command_row, sta
 use rules::Starts;
 
 // A type row: the type that a reference of this type points to.
-#[derive(Drop)]
+#[derive(Clone, Copy)]
 pub struct TypeRow {
     pub target: u16,
 }
 
 // A home row: the home's type and its number of cells.
-#[derive(Drop)]
+#[derive(Clone, Copy)]
 pub struct HomeRow {
     pub ty: u16,
     pub size: u16,
 }
 
 // An expression row.
-#[derive(Drop)]
+#[derive(Clone, Copy)]
 pub struct ExprRow {
     pub tag: u8,
     pub a: u16,
@@ -31,7 +31,7 @@ pub struct ExprRow {
 }
 
 // A command row.
-#[derive(Drop)]
+#[derive(Clone, Copy)]
 pub struct CommandRow {
     pub tag: u8,
     pub a: u16,
@@ -40,7 +40,7 @@ pub struct CommandRow {
 }
 
 // A start row: a cell of a home, and the number that it starts as.
-#[derive(Drop)]
+#[derive(Clone, Copy)]
 pub struct StartRow {
     pub home: u16,
     pub cell: u16,
@@ -48,7 +48,7 @@ pub struct StartRow {
 }
 
 // How many rows each section has.
-#[derive(Drop)]
+#[derive(Clone, Copy)]
 pub struct Counts {
     pub types: u16,
     pub homes: u16,

@@ -1,0 +1,17 @@
+-- `front::from_exprs` meets its contract: the section is refused, or the reading goes on behind it. Assumes nothing.
+use Rattle.reader.specs.Steps.{of_exprs}
+use Rattle.reader.proofs.Sections.{goes, halts}
+use native.Mathlib.Omega.{arith}
+use Rattle.reader.proofs.front.from_exprs.Goals as goal
+
+pub section-requires : goal.section-requires
+section-requires c = (omega arith, of_exprs)
+
+pub from_commands-requires : goal.from_commands-requires
+from_commands-requires c = let p = c.section.ensures.passed _ _ c.in-Next.is in (c.requires.0, c.requires.1, omega (arith, p))
+
+pub returns-in-Next : goal.returns-in-Next
+returns-in-Next c = goes _ _ _ _ _ c.section.ensures c.in-Next.is c.from_commands.ensures
+
+pub returns-in-No : goal.returns-in-No
+returns-in-No c = halts _ _ _ _ c.section.ensures c.in-No.is
