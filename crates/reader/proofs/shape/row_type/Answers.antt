@@ -30,3 +30,6 @@ returns-in-5 c = type_tag c.requires.0 (omega arith) c.requires.1 c.expr_row-row
 
 pub returns-in-6 : goal.returns-in-6
 returns-in-6 c = type_read c.requires.0 (omega arith) c.requires.1 c.expr_row-row.ensures c.in-6.is c.type_row.ensures
+
+pub returns-in_default : goal.returns-in_default
+returns-in_default c = type_rest c.requires.0 (omega arith) c.requires.1 c.expr_row-row.ensures (λ e. omega arith) (λ e. omega arith) (λ e. omega arith) (λ e. omega arith) (λ e. omega arith)

@@ -6,7 +6,7 @@ use native.Mathlib.Omega.{arith}
 use Rattle.reader.proofs.shape.type_table.Goals as goal
 
 pub loop-e-init : goal.loop-e-init
-loop-e-init c = table_start c.requires.0 c.requires.1 (ap (λ (r : Counts). r.exprs) c.row_Counts.ensures)
+loop-e-init c = table_start c.requires.0 c.requires.1 (ap (λ (r : Counts). r.exprs) c.row_counts-n.ensures)
 
 pub row_type-requires : goal.row_type-requires
 row_type-requires c = (c.loop-e.invariant.typed, omega arith)
