@@ -1,0 +1,27 @@
+use Prim.Native.Nat.{◌≤◌, ◌-◌}
+use native.Mathlib.Omega.{arith}
+use borrow.Author.Tests.{not-true, not-false}
+use Rattle.checker.specs.First.{Passed, passed_none, passed_more, found, found_none}
+use Rattle.checker.proofs.RowLaws.{expr_asked, expr_says}
+use Rattle.checker.proofs.bad_expr.Goals as goal
+
+pub loop-i-init : goal.loop-i-init
+loop-i-init c = (omega arith, λ g. passed_none _)
+
+pub expr_need-need-requires : goal.expr_need-need-requires
+expr_need-need-requires c = (c.requires.0.known, omega (arith, c.loop-i-test.true, c.requires.1))
+
+pub met-requires : goal.met-requires
+met-requires c = expr_asked c.requires.0 (omega (arith, c.loop-i-test.true, c.requires.1)) c.expr_need-need.ensures
+
+pub returns-then-not-met : goal.returns-then-not-met
+returns-then-not-met c = λ g. found _ _ _ (c.loop-i.invariant.1 g) c.loop-i-test.true (expr_says g (omega (arith, c.loop-i-test.true, c.requires.1)) c.expr_need-need.ensures c.met.ensures (not-true _ c.if-not-met.true-raw))
+
+pub overflow_add-i : goal.overflow_add-i
+overflow_add-i c = omega (arith, c.requires.0.known.file.exprs.few, c.requires.1)
+
+pub loop-i-preserved : goal.loop-i-preserved
+loop-i-preserved c = (omega arith, λ g. passed_more _ _ (c.loop-i.invariant.1 g) (expr_says g (omega (arith, c.loop-i-test.true, c.requires.1)) c.expr_need-need.ensures c.met.ensures (not-false _ c.if-not-met.false-raw)))
+
+pub returns : goal.returns
+returns c = λ g. found_none _ _ _ (c.loop-i.invariant.1 g) c.loop-i.invariant.0 c.loop-i-test.false
