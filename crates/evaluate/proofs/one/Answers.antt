@@ -1,4 +1,5 @@
 -- By the operation: each is one rule for values.
+use native.Mathlib.Omega.{arith}
 use Rattle.evaluate.proofs.Answers.{access_inside, eight, one_int, one_pair, one_safe, one_read_safe, one_read_seq, one_read_dynamic, one_read_int}
 use Rattle.evaluate.proofs.one.Goals as goal
 
@@ -28,3 +29,9 @@ returns-in-6 c = one_read_seq c.args.t.now c.args.memory.now _ _ _ c.args.x.valu
 
 pub returns-in-7 : goal.returns-in-7
 returns-in-7 c = one_read_dynamic c.args.t.now c.args.memory.now _ _ _ c.args.x.value _ _ c.in-7.is c.reach_dynamic.ensures c.load-in-7.ensures
+
+pub load_int-requires : goal.load_int-requires
+load_int-requires c = access_inside c.args.t.now _ 3 _ c.args.x.value _ c.requires (omega arith) c.reach_dynamic-in_default.ensures
+
+pub returns-in_default : goal.returns-in_default
+returns-in_default c = one_read_int c.args.t.now c.args.memory.now _ _ _ c.args.x.value _ _ (omega arith) c.reach_dynamic-in_default.ensures c.load_int.ensures
