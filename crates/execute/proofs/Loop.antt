@@ -5,7 +5,6 @@ use native.Mathlib.Numerals.{sub-one}
 use native.Mathlib.Omega.{arith}
 use mathlib.Core.List.{List, [], ◌∷◌}
 use denote.Enum.Declared.{tag_of}
-use types.Run.{OneOf}
 use Rattle.rules.specs.declared.Value.{Value}
 use Rattle.rules.specs.Basic.{choose}
 use Rattle.rules.specs.Table.{Command, Home, Routine}
@@ -124,7 +123,7 @@ module _ {t start : List ℕ} {row : ℕ} (g : Commanded t start row) where
             at_body = past_test ∙ rw (truth_true v.value test_fine (λ q. z (j ∙ q)), is_second g y b k)
 
             module _ (u : Ran) (l₂ : List ℕ) (right₂ : Carried t l b v.left u l₂) where
-              pub loop_breaks : (r : Ran) → OneOf (1 ∷ 2 ∷ []) (tag_of ran.the_type u) → r ≡ u → ran_told g.rows.routine g.homes.list r l₂ ≡ entered_run g fuel
+              pub loop_breaks : (r : Ran) → ((n : ℕ) → u ≡ Done n → ⊥) → r ≡ u → ran_told g.rows.routine g.homes.list r l₂ ≡ entered_run g fuel
               loop_breaks r tag q = ap (λ s. ran_told R H s l₂) q ∙ ran_told_lem R H l₂ u (λ w₂ f₂. Again (turned.bound - 1) w₂ f₂) tag ∙ rw (right₂ body_asked, at_body)
 
               module _ (f₂ : ℕ) (d₂ : u ≡ Done f₂) where
@@ -146,11 +145,11 @@ module _ {t start : List ℕ} {row : ℕ} (g : Commanded t start row) where
                     let r : f₂ ≤ v.left = rw body_gave at q in
                     omega arith
 
-                pub loop-less : (f₂ ≡ 0 → ⊥) → f₂ - 1 < left
-                loop-less q = omega (arith, falls, q)
+                pub loop_less : (f₂ ≡ 0 → ⊥) → f₂ - 1 < left
+                loop_less q = omega (arith, falls, q)
 
-                pub loop-again : (f₂ ≡ 0 → ⊥) → Turned fuel l₂ (f₂ - 1)
-                loop-again q =
+                pub loop_again : (f₂ ≡ 0 → ⊥) → Turned fuel l₂ (f₂ - 1)
+                loop_again q =
                     record {
                       bound = turned.bound - 1;
                       more = omega (arith, falls, q, turned.more);

@@ -8,7 +8,6 @@ use native.Mathlib.Omega.{arith}
 use mathlib.Core.List.{List, [], ◌∷◌}
 use lib.ListN.{get_or, set}
 use denote.Enum.Declared.{tag_of}
-use types.Run.{OneOf}
 use Rattle.rules.specs.declared.Value.{Value}
 use Rattle.rules.specs.declared.Value.TheVariants.{Number, Pair}
 use Rattle.rules.specs.Basic.{choose}
@@ -183,9 +182,8 @@ module _ (r : Routine) (hs : List Home) (memory : List ℕ) where
   stop_told_lem (answers.Stopped (stops.Fuel i)) k h = refl
   stop_told_lem (answers.Stopped (stops.Check n i f)) k h = refl
 
-  pub ran_told_lem : (x : Ran) (k : State → ℕ → Runs) → OneOf (1 ∷ 2 ∷ []) (tag_of ran.the_type x) → ran_told r hs x memory ≡ ended (ran_told r hs x memory) k
-  ran_told_lem (Done f) k (inl h) = absurd (omega arith)
-  ran_told_lem (Done f) k (inr h) = absurd (omega arith)
+  pub ran_told_lem : (x : Ran) (k : State → ℕ → Runs) → ((n : ℕ) → x ≡ Done n → ⊥) → ran_told r hs x memory ≡ ended (ran_told r hs x memory) k
+  ran_told_lem (Done f) k h = absurd (h f refl)
   ran_told_lem (Fuel i) k h = refl
   ran_told_lem (Check n i f) k h = refl
 
@@ -454,7 +452,7 @@ module _ {t memory : List ℕ} {row : ℕ} (g : Commanded t memory row) where
         ∙ ap (λ k. ended (exec R M W k f).answer λ w₁ f₁. (exec R M w₁ (second_for X) f₁).answer) (is_first y a i)
 
     module _ (x : Ran) (l : List ℕ) (right : Carried t memory a f x l) where
-      pub first_stops : (r : Ran) → OneOf (1 ∷ 2 ∷ []) (tag_of ran.the_type x) → r ≡ x → ran_told g.rows.routine g.homes.list r l ≡ entered_run g f
+      pub first_stops : (r : Ran) → ((n : ℕ) → x ≡ Done n → ⊥) → r ≡ x → ran_told g.rows.routine g.homes.list r l ≡ entered_run g f
       first_stops r tag q =
           ap (λ s. ran_told R H s l) q ∙ ran_told_lem R H l x (λ w₁ f₁. (exec R M w₁ (second_for X) f₁).answer) tag ∙ rw (right first_asked, at_first)
 
