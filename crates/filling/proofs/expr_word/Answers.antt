@@ -1,7 +1,6 @@
 -- By the row's tag.
-use native.Mathlib.Omega.{arith}
-use mathlib.Core.Path.{refl}
-use Rattle.filling.proofs.Words.{known, reference, expr_good_lem, home_ready, cast_ready, null_ready, read_before, few_exprs_lem, literal_word, home_made, cast_made, null_made, sum_made, read_made, operator_made, operator_small, other_tag}
+use Rattle.std.proofs.Common.{refl, arith}
+use Rattle.filling.proofs.Words.{known, reference, expr_good_lem, home_ready, cast_ready, null_ready, read_before, few_exprs_lem, literal_word, home_made, cast_made, null_made, sum_made, read_made, operator_made, other_tag}
 use Rattle.filling.proofs.expr_word.Goals as goal
 
 pub expr_row-row-requires : goal.expr_row-row-requires
@@ -39,3 +38,16 @@ returns-in-5 c = sum_made c.requires.accepted c.args.e c.expr_row-row.result c.r
 
 pub returns-in-6 : goal.returns-in-6
 returns-in-6 c = read_made c.requires.accepted c.args.e c.expr_row-row.result c.requires.row c.expr_row-row.ensures _ _ c.in-6.is refl c.read_word.ensures
+
+pub overflow_sub-tag : goal.overflow_sub-tag
+overflow_sub-tag c =
+    (other_tag _ _ _ c.expr_row-row.result.tag c.expr_row-row.result.a c.expr_row-row.result.b
+    (expr_good_lem c.requires.accepted c.args.e c.expr_row-row.result c.requires.row c.expr_row-row.ensures)
+    (λ e. omega arith) (λ e. omega arith) (λ e. omega arith) (λ e. omega arith) (λ e. omega arith) (λ e. omega arith)).from
+
+pub returns-in_default : goal.returns-in_default
+returns-in_default c =
+    operator_made c.requires.accepted c.args.e c.expr_row-row.result c.requires.row c.expr_row-row.ensures _ _
+    (other_tag _ _ _ c.expr_row-row.result.tag c.expr_row-row.result.a c.expr_row-row.result.b
+    (expr_good_lem c.requires.accepted c.args.e c.expr_row-row.result c.requires.row c.expr_row-row.ensures)
+    (λ e. omega arith) (λ e. omega arith) (λ e. omega arith) (λ e. omega arith) (λ e. omega arith) (λ e. omega arith)) refl c.word-in_default.ensures

@@ -1,6 +1,5 @@
 -- By the row's tag.
-use native.Mathlib.Omega.{arith}
-use mathlib.Core.Path.{refl}
+use Rattle.std.proofs.Common.{refl, arith}
 use Rattle.filling.proofs.Words.{known, reference, command_good_lem, store_before, skip_made, seq_made, store_made, if_made, while_made, other_command}
 use Rattle.filling.proofs.row_word.Goals as goal
 
@@ -24,3 +23,10 @@ returns-in-2 c = store_made c.requires.accepted c.args.c c.command_row-row.resul
 
 pub returns-in-3 : goal.returns-in-3
 returns-in-3 c = if_made c.requires.accepted c.args.c c.command_row-row.result c.requires.row c.command_row-row.ensures _ c.in-3.is c.command_word-in-3.ensures
+
+pub returns-in_default : goal.returns-in_default
+returns-in_default c =
+    while_made c.requires.accepted c.args.c c.command_row-row.result c.requires.row c.command_row-row.ensures _
+    (other_command _ _ c.command_row-row.result.tag c.command_row-row.result.a c.command_row-row.result.b c.command_row-row.result.c
+    (command_good_lem c.requires.accepted c.args.c c.command_row-row.result c.requires.row c.command_row-row.ensures) (λ e. omega arith) (λ e. omega arith) (λ e. omega arith) (λ e. omega arith))
+    c.command_word-in_default.ensures
