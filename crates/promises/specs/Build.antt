@@ -68,7 +68,7 @@ module _ (row : ℕ → List ℕ) (w : ℕ) (wide : (i : ℕ) → length (row i)
       let y : Stands s (q + w) (rows_of row (suc i) n) = rw (wide i) at (stands_right (row i) (rows_of row (suc i) n) x) in
       let e : q + w * suc k ≡ q + w + w * k = omega (arith, mul-suc w k) in
       let f : i + suc k ≡ suc i + k = omega arith in
-      rw (e, f) (stands_row (suc i) n k y (omega arith))
+      rw (e, f) (stands_row {q = q + w} (suc i) n k y (omega arith))
 
   pub length_before : (low high : ℕ) (rest : List ℕ) → length (before row low high rest) ≡ 2 + w * (low + 256 * high) + length rest
   unfolding before

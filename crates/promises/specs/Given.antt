@@ -2,7 +2,7 @@
 use Rattle.std.specs.Prelude.{◌≡◌, refl, Bool, true, false, ◌&&◌, ◌||◌, ℕ, zero, suc, ◌+◌, ◌≤◌, ◌<◌, List, ltb, eqb}
 use Rattle.std.proofs.Common.{◌∙◌, not-suc-le-zero, le_refl, arith, ltb-true, eqb-true, lt-ltb, le-ltb, eq-eqb}
 use Rattle.std.proofs.Math.Decide.{ℕ_discrete}
-use Rattle.rules.specs.Table.{StartRow, Routine}
+use Rattle.rules.specs.Table.{StartRow, Routine, routine}
 use Rattle.rules.specs.Reading.{below}
 use Rattle.rules.specs.Shape.{home_at}
 use Rattle.rules.specs.Kinds.{kind}
@@ -41,7 +41,7 @@ before_trans (lower a) (earlier b c) = lower (omega arith)
 before_trans (earlier a b) (lower c) = lower (omega arith)
 before_trans (earlier a b) (earlier c d) = earlier (a ∙ c) (omega arith)
 
-module _ {r : Routine} (rising : Rising r) where
+module _ (r : Routine) (rising : Rising r) where
   -- Every row comes after all earlier ones.
   rows_rise : (i j : ℕ) → i < j → j < r.values → Before (r.value i) (r.value j)
   rows_rise i zero l k = absurd (not-suc-le-zero l)
@@ -108,4 +108,4 @@ module _ {r : Routine} (rising : Rising r) where
         }
 
 pub starting_memory : StartingMemory
-starting_memory s m lent at b f = starting (formed_rising s at f) m (formed_fine b f) lent
+starting_memory s m lent at b f = starting (routine s at) (formed_rising s at f) m (formed_fine b f) lent

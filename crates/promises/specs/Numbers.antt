@@ -6,8 +6,8 @@ use Rattle.rules.specs.declared.Starts.{Starts}
 use Rattle.rules.specs.declared.Section.{Section}
 use Rattle.rules.specs.declared.Section.TheVariants.{Types, Homes, Exprs, Commands, Values}
 use Rattle.rules.specs.Basic.{half, in_range, Verdict, fine, refused, unless_refused, guard, scan, first_bad}
-use Rattle.rules.specs.Table.{Routine, routine}
-use Rattle.rules.specs.Reading.{row_bytes, fewest, most, row_good, rows, section, cells, sections, fifth, reading, rises, rising}
+use Rattle.rules.specs.Table.{Routine, routine, row_place}
+use Rattle.rules.specs.Reading.{row_bytes, fewest, most, row_good, row_read, rows, section, cells, sections, fifth, reading, rises, rising}
 use Rattle.rules.specs.Shape.{expr_shaped, command_shaped, value_shaped, shape}
 use Rattle.rules.specs.Kinds.{type_kind, expr_kind, command_kind, kinds}
 use Rattle.rules.specs.Tests.{by_test}
@@ -54,7 +54,12 @@ module _ {X : Type 0} where
   section_only s c q go h =
       only_guard 1 q (leb (q + 2) (length s)) _ (inl (omega arith))
       (only_guard 2 q (in_range (fewest c) (half s q) (most c)) _ (inl (omega arith))
-      (only_scan _ (λ i k l. only_guard 1 _ (leb (q + 2 + row_bytes c * i + row_bytes c) (length s)) _ (inl (omega arith)) (only_guard 3 _ (row_good s c i (q + 2 + row_bytes c * i)) k (inl (omega arith)) l)) 0 (half s q) _ (h _ _)))
+      (only_scan (row_read s c (q + 2))
+      (λ i k l.
+        let p = row_place (q + 2) (row_bytes c) i in
+        only_guard 1 p (leb (p + row_bytes c) (length s)) (λ _. guard 3 p (row_good s c i p) k) (inl (omega arith))
+        (only_guard 3 p (row_good s c i p) k (inl (omega arith)) l))
+      0 (half s q) (λ _. go (row_place (q + 2) (row_bytes c) (half s q)) (half s q)) (h _ _)))
 
   cells_only : (s : List ℕ) (q before n : ℕ) (go : Unit {0} → Verdict X) → Only OfReading (go tt) → Only OfReading (cells s q before n go)
   unfolding cells

@@ -45,7 +45,10 @@ module _ {X : Type 0} {more : X → X} {out : ℕ → X → Type 0} where
     longer_then {f} {x} {y} k l h (longer {p = p} z o e) i = rw e (go x.answer o)
       where
         go : {q : ℕ} (b : Answer) → Cut q b → Longer more out (after x.steps (on_value stop b k)) (after (x.steps ++ entered q ∷ z) (on_value stop y.answer l))
+        go {q = q} (got v f₀) h = elim h [ ]
         go (stopped (no_fuel q)) cut = longer_cut q x.steps z _ (outs q)
+        go {q = q} (stopped (failed c p₁ f₀)) h = elim h [ ]
+        go {q = q} (stopped (no_rule p₁ f₀)) h = elim h [ ]
 
     longer_ruled : {Y : Type 0} (k l : Y → Told X) (p f : ℕ) (u : Ruled Y) → ((y : Y) → Longer more out (k y) (l y))
         → Longer more out (ruled stop p f u k) (ruled stop p (f + d) u l)
@@ -92,7 +95,10 @@ module _ (d : ℕ) where
   longer_on {f} {x} {y} k l h (longer {p = p} z o e) i = rw e (go x.answer o)
     where
       go : {q : ℕ} (b : Ran) → CutRan q b → MoreRan (after x.steps (on_done b k)) (after (x.steps ++ entered q ∷ z) (on_done y.answer l))
+      go {q = q} (done w f₀) h = elim h [ ]
       go (halted w (no_fuel q)) cut_ran = longer_cut q x.steps z _ cut_ran
+      go {q = q} (halted w (failed c p₁ f₀)) h = elim h [ ]
+      go {q = q} (halted w (no_rule p₁ f₀)) h = elim h [ ]
 
   branch_longer : (c : Bool) (x y x' y' : Unit {0} → Told Ran) → MoreRan (x tt) (x' tt) → MoreRan (y tt) (y' tt) → MoreRan (choose c x y) (choose c x' y')
   branch_longer true x y x' y' h i = h

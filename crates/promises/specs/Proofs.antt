@@ -40,7 +40,7 @@ use Rattle.promises.specs.Least.{acceptable_meets, meets_acceptable, least_exist
 module _ {r : Routine} {m : List ℕ} where
   split : {w w' : State} {k : List Step} (l : List Step) → Steps r m w (l ++ k) w' → Steps r m w l (replay w l) × Steps r m (replay w l) k w'
   split [] x = (still, x)
-  split (s ∷ l) (next i o x) = let (y, z) = split l x in (next i o y, z)
+  split {w = w} (s ∷ l) (next i o x) = let (y, z) = split {w = stepped w s} l x in (next i o y, z)
 
   ends : {w w' : State} {l : List Step} → Steps r m w l w' → w' ≡ replay w l
   ends still = refl
