@@ -2,7 +2,7 @@
 use Rattle.std.specs.Prelude.{◌≡◌, refl, ℕ, ◌<◌}
 use Rattle.std.proofs.Common.{sym, ap, ◌∙◌, not-suc-le-zero, arith}
 use Rattle.rules.specs.Basic.{Verdict, fine, refused}
-use Rattle.rules.specs.Calls.{Ending, finished, out_of_fuel, failed_check, Ended, Left, formed, checking, running}
+use Rattle.rules.specs.Calls.{Ending, finished, out_of_fuel, failed_check, Ended, Left, formed, checking, running, stuck_at}
 use Rattle.promises.specs.Promises.{Regular, is_done, is_fuel, is_check}
 use Rattle.promises.specs.Numbers.{read_check, check_run, infer_run, numbers}
 use Rattle.promises.specs.Proofs.{endings, one_inference}
@@ -46,6 +46,7 @@ ended (failed_check n p) u (is_check l k) =
       fuel = λ z o. absurd (omega arith);
       most = omega arith;
     }
+ended (stuck_at p) u h = elim h [ ]
 
 tells_run : (v : Verdict Ended) (r : Ran) → r ≡ plain_ran v → Numbered v → ((e : Ended) → v ≡ fine e → Regular e.ending) → TellsRun v r
 tells_run (fine e) r q h k = rw q (ended e.ending e.units (k e refl))
