@@ -1,76 +1,53 @@
 // Reads one routine file on standard input and runs it under its inferred marking with fuel 1,000,000.
 // It prints a line for each type, number and kind, then outcome, place and units; or only a refusal, number and place.
 #![tactic(auto)]
-use libc::{STDIN_FILENO, STDOUT_FILENO};
+ghost use Rattle.std.specs.Prelude.{◌≤◌, length, IfOk};
+
 use rules::{InferAnswer, Outcome, Refusal, Report, RunAnswer};
+use std::io;
+use std::io::Read;
 
-fn print(word: &[u8]) {
-    io::write_all(STDOUT_FILENO, word);
-}
-
-// A blank, a number.
-fn print_next(n: u32) {
-    print(b" ");
-    io::print_decimal(STDOUT_FILENO, n as u64);
-}
-
-fn print_kind(t: usize, kind: u8) {
-    io::print_decimal(STDOUT_FILENO, t as u64);
+fn print_kind(rt: &HostRuntime, t: usize, kind: u8) -> io::Result<()> {
     match kind {
-        0 => print(b" SAFE\n"),
-        1 => print(b" SEQ\n"),
-        _ => print(b" DYNAMIC\n"),
+        0 => println!(rt; "{t} SAFE"),
+        1 => println!(rt; "{t} SEQ"),
+        _ => println!(rt; "{t} DYNAMIC"),
     }
 }
 
 // A line for each type.
-fn print_kinds(marking: &[u8]) {
+fn print_kinds(rt: &HostRuntime, marking: &[u8]) -> io::Result<()> {
     let mut i: usize = 0;
     while i < marking.len() {
-        print_kind(i + 1, marking[i]);
+        print_kind(rt, i + 1, marking[i])?;
         i += 1;
     }
+    Ok(())
 }
 
-fn print_outcome(outcome: Outcome) {
-    match outcome {
-        Outcome::Done => print(b"done 0"),
-        Outcome::Fuel(place) => {
-            print(b"fuel");
-            print_next(place);
-        }
-        Outcome::Check(number, place) => {
-            print(b"check-");
-            io::print_decimal(STDOUT_FILENO, number as u64);
-            print_next(place);
-        }
+fn print_report(rt: &HostRuntime, r: Report) -> io::Result<()> {
+    let units = r.units;
+    match r.outcome {
+        Outcome::Done => println!(rt; "done 0 {units}"),
+        Outcome::Fuel(place) => println!(rt; "fuel {place} {units}"),
+        Outcome::Check(number, place) => println!(rt; "check-{number} {place} {units}"),
     }
 }
 
-fn print_report(r: Report) {
-    let outcome = r.outcome;
-    print_outcome(outcome);
-    print_next(r.units);
-    print(b"\n");
-}
-
-fn print_refusal(r: Refusal) {
-    print(b"refused");
-    print_next(r.number);
-    print_next(r.place);
-    print(b"\n");
+fn print_refusal(rt: &HostRuntime, r: Refusal) -> io::Result<()> {
+    println!(rt; "refused {} {}", r.number, r.place)
 }
 
 // The run of a file that was marked.
-fn run(file: &[u8], marking: &[u8]) {
+fn run(rt: &HostRuntime, file: &[u8], marking: &[u8]) -> io::Result<()> {
     let mut memory = [0u64; 4096];
     let answer = runner::run(file, marking, 1000000, &mut memory);
     match answer {
         RunAnswer::Ran(r) => {
-            print_kinds(marking);
-            print_report(r);
+            print_kinds(rt, marking)?;
+            print_report(rt, r)
         }
-        RunAnswer::Refused(r) => print_refusal(r),
+        RunAnswer::Refused(r) => print_refusal(rt, r),
     }
 }
 
@@ -86,23 +63,39 @@ fn types_of(file: &[u8]) -> usize {
     wide(file[0])
 }
 
-fn answer(file: &[u8], marking: &mut [u8]) {
+fn answer(rt: &HostRuntime, file: &[u8], marking: &mut [u8]) -> io::Result<()> {
     let marked = infer::infer(file, marking);
     match marked {
         InferAnswer::Marked => {
             let n = types_of(file);
             if n <= marking.len() {
-                run(file, &marking[..n]);
+                return run(rt, file, &marking[..n]);
             }
+            Ok(())
         }
-        InferAnswer::Refused(r) => print_refusal(r),
+        InferAnswer::Refused(r) => print_refusal(rt, r),
     }
 }
 
-fn main() {
+// Reads until the buffer is full or the input ends: how many bytes it got.
+fn read_full<R: Read>(input: &mut R, buf: &mut [u8]) -> io::Result<usize>
+    ensures { IfOk result (λ n. n ≤ length buf.new) }
+{
+    let mut got: usize = 0;
+    while got < buf.len() {
+        let n = input.read(&mut buf[got..])?;
+        if n == 0 {
+            return Ok(got);
+        }
+        got += n;
+    }
+    Ok(got)
+}
+
+fn main(rt: HostRuntime) -> io::Result<()> {
     // The first 15,113 bytes decide every answer: `FirstBytesDecide` of the laws.
     let mut file = [0u8; 15113];
     let mut marking = [0u8; 255];
-    let got = io::read_full(STDIN_FILENO, &mut file);
-    answer(&file[..got], &mut marking);
+    let got = read_full(&mut rt.reader(), &mut file)?;
+    answer(&rt, &file[..got], &mut marking)
 }

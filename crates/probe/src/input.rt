@@ -1,5 +1,8 @@
 // Numbers and bytes from standard input. `used` counts the bytes that were read before.
-use libc::STDIN_FILENO;
+ghost use Rattle.std.specs.Prelude.{◌≤◌, length, IfOk};
+
+use std::io;
+use std::io::Read;
 
 // A number that was read whole, or the input's end.
 #[derive(Clone, Copy)]
@@ -12,45 +15,60 @@ fn wide(b: u8) -> u64 {
     b as u64
 }
 
-// One byte.
-pub fn byte() -> Number {
-    let mut one = [0u8; 1];
-    let got = io::read_full(STDIN_FILENO, &mut one);
-    if got < 1 {
-        return Number::Cut;
+// Reads until the buffer is full or the input ends: how many bytes it got.
+pub fn read_full<R: Read>(input: &mut R, buf: &mut [u8]) -> io::Result<usize>
+    ensures { IfOk result (λ n. n ≤ length buf.new) }
+{
+    let mut got: usize = 0;
+    while got < buf.len() {
+        let n = input.read(&mut buf[got..])?;
+        if n == 0 {
+            return Ok(got);
+        }
+        got += n;
     }
-    Number::Is(wide(one[0]))
+    Ok(got)
+}
+
+// One byte.
+pub fn byte<R: Read>(input: &mut R) -> io::Result<Number> {
+    let mut one = [0u8; 1];
+    let got = read_full(input, &mut one)?;
+    if got < 1 {
+        return Ok(Number::Cut);
+    }
+    Ok(Number::Is(wide(one[0])))
 }
 
 // A 16-bit number.
-pub fn half() -> Number {
+pub fn half<R: Read>(input: &mut R) -> io::Result<Number> {
     let mut two = [0u8; 2];
-    let got = io::read_full(STDIN_FILENO, &mut two);
+    let got = read_full(input, &mut two)?;
     if got < 2 {
-        return Number::Cut;
+        return Ok(Number::Cut);
     }
-    Number::Is(wide(two[0]) % 256 + 256 * (wide(two[1]) % 256))
+    Ok(Number::Is(wide(two[0]) % 256 + 256 * (wide(two[1]) % 256)))
 }
 
 // A 32-bit number.
-pub fn word() -> Number {
+pub fn word<R: Read>(input: &mut R) -> io::Result<Number> {
     let mut four = [0u8; 4];
-    let got = io::read_full(STDIN_FILENO, &mut four);
+    let got = read_full(input, &mut four)?;
     if got < 4 {
-        return Number::Cut;
+        return Ok(Number::Cut);
     }
     let low = wide(four[0]) % 256 + 256 * (wide(four[1]) % 256);
     let high = wide(four[2]) % 256 + 256 * (wide(four[3]) % 256);
-    Number::Is(low + 65536 * high)
+    Ok(Number::Is(low + 65536 * high))
 }
 
 // An entry of 64 bits.
-pub fn entry() -> Number {
-    match word() {
-        Number::Cut => Number::Cut,
-        Number::Is(low) => match word() {
-            Number::Cut => Number::Cut,
-            Number::Is(high) => { Number::Is(low % 4294967296 + 4294967296 * (high % 4294967296)) }
-        },
-    }
+pub fn entry<R: Read>(input: &mut R) -> io::Result<Number> {
+    let Number::Is(low) = word(input)? else {
+        return Ok(Number::Cut);
+    };
+    let Number::Is(high) = word(input)? else {
+        return Ok(Number::Cut);
+    };
+    Ok(Number::Is(low % 4294967296 + 4294967296 * (high % 4294967296)))
 }

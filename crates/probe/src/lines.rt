@@ -1,42 +1,44 @@
 // Lines of text on standard output, gathered in a lent buffer that is written out whenever it is full.
 // `at` is how much of the buffer is filled; each function answers how much is filled afterwards.
-use libc::STDOUT_FILENO;
+use itoa::Buffer;
+use std::io;
+use std::io::Write;
 
 // One byte more.
-pub fn put(out: &mut [u8], at: usize, b: u8) -> usize {
+pub fn put(rt: &HostRuntime, out: &mut [u8], at: usize, b: u8) -> io::Result<usize> {
     if at < out.len() {
         out[at] = b;
-        return at + 1;
+        return Ok(at + 1);
     }
-    io::write_all(STDOUT_FILENO, out);
+    io::writer(rt).write_all(out)?;
     if 0 < out.len() {
         out[0] = b;
-        return 1;
+        return Ok(1);
     }
-    0
+    Ok(0)
 }
 
 // The bytes of a word.
-pub fn put_word(out: &mut [u8], at: usize, word: &[u8]) -> usize {
+pub fn put_word(rt: &HostRuntime, out: &mut [u8], at: usize, word: &[u8]) -> io::Result<usize> {
     let mut end = at;
     let mut i: usize = 0;
     while i < word.len() {
-        end = put(out, end, word[i]);
+        end = put(rt, out, end, word[i])?;
         i += 1;
     }
-    end
+    Ok(end)
 }
 
 // A number, in decimal.
-pub fn put_number(out: &mut [u8], at: usize, n: u64) -> usize {
-    let mut digits = [0u8; 20];
-    let k = io::decimal(n, &mut digits);
-    put_word(out, at, &digits[..k])
+pub fn put_number(rt: &HostRuntime, out: &mut [u8], at: usize, n: u64) -> io::Result<usize> {
+    let mut digits = Buffer::new();
+    put_word(rt, out, at, digits.format(n).as_bytes())
 }
 
 // What is left in the buffer goes out.
-pub fn flush(out: &[u8], at: usize) {
+pub fn flush(rt: &HostRuntime, out: &[u8], at: usize) -> io::Result<()> {
     if at <= out.len() {
-        io::write_all(STDOUT_FILENO, &out[..at]);
+        io::writer(rt).write_all(&out[..at])?;
     }
+    Ok(())
 }

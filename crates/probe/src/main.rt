@@ -5,32 +5,36 @@ mod input;
 mod lines;
 mod requests;
 
-use input::Number;
+use input::{Number, byte};
 use requests::Answered;
+use std::io;
+use std::io::Read;
 
 // The answer to one request, whose letter was read.
-fn answer(
+fn answer<R: Read>(
+    rt: &HostRuntime,
+    input: &mut R,
     letter: u64,
     file: &mut [u8],
     marking: &mut [u8],
     memory: &mut [u64],
     out: &mut [u8],
     at: usize,
-) -> Answered {
+) -> io::Result<Answered> {
     match letter {
-        67 => requests::answer_check(file, marking, out, at),
-        73 => requests::answer_infer(file, marking, out, at),
-        82 => requests::answer_read(file, out, at),
-        88 => requests::answer_run(file, marking, memory, out, at),
-        _ => Answered::Bad,
+        67 => requests::answer_check(rt, input, file, marking, out, at),
+        73 => requests::answer_infer(rt, input, file, marking, out, at),
+        82 => requests::answer_read(rt, input, file, out, at),
+        88 => requests::answer_run(rt, input, file, marking, memory, out, at),
+        _ => Ok(Answered::Bad),
     }
 }
 
 // The line for a request that begins at byte `offset` of the input and is none.
-fn put_bad(out: &mut [u8], at: usize, offset: u64) -> usize {
-    let word = lines::put_word(out, at, b"bad request ");
-    let number = lines::put_number(out, word, offset);
-    lines::put(out, number, b'\n')
+fn put_bad(rt: &HostRuntime, out: &mut [u8], at: usize, offset: u64) -> io::Result<usize> {
+    let word = lines::put_word(rt, out, at, b"bad request ")?;
+    let number = lines::put_number(rt, out, word, offset)?;
+    lines::put(rt, out, number, b'\n')
 }
 
 // Where a turn leaves the program: whether it goes on, how much of the output is filled, and the bytes read so far.
@@ -42,38 +46,40 @@ struct Turn {
 }
 
 // One request, if there is one.
-fn next_request(
+fn next_request<R: Read>(
+    rt: &HostRuntime,
+    input: &mut R,
     file: &mut [u8],
     marking: &mut [u8],
     memory: &mut [u64],
     out: &mut [u8],
     at: usize,
     offset: u64,
-) -> Turn {
-    let letter = input::byte();
+) -> io::Result<Turn> {
+    let letter = byte(input)?;
     let Number::Is(b) = letter else {
-        return Turn {
+        return Ok(Turn {
             go: false,
             at,
             offset,
-        };
+        });
     };
-    let answered = answer(b, file, marking, memory, out, at);
+    let answered = answer(rt, input, b, file, marking, memory, out, at)?;
     match answered {
-        Answered::Line(used, end) => Turn {
+        Answered::Line(used, end) => Ok(Turn {
             go: true,
             at: end,
-            offset: std::num::wrapping_add_u64(std::num::wrapping_add_u64(offset, 1), used),
-        },
-        Answered::Bad => Turn {
+            offset: offset.wrapping_add(1).wrapping_add(used),
+        }),
+        Answered::Bad => Ok(Turn {
             go: false,
-            at: put_bad(out, at, offset),
+            at: put_bad(rt, out, at, offset)?,
             offset,
-        },
+        }),
     }
 }
 
-fn main() {
+fn main(rt: HostRuntime) -> io::Result<()> {
     let mut file_space = [0u8; 65536];
     let mut marking_space = [0u8; 4096];
     let mut memory_space = [0u64; 8192];
@@ -82,12 +88,13 @@ fn main() {
     let marking: &mut [u8] = &mut marking_space;
     let memory: &mut [u64] = &mut memory_space;
     let out: &mut [u8] = &mut out_space;
+    let mut input = rt.reader();
     let mut at: usize = 0;
     let mut offset: u64 = 0;
     // Requests are counted down, so that the program ends on any input.
     let mut left: u64 = 1000000000000;
     while 0 < left {
-        let next = next_request(file, marking, memory, out, at, offset);
+        let next = next_request(&rt, &mut input, file, marking, memory, out, at, offset)?;
         at = next.at;
         offset = next.offset;
         if !next.go {
@@ -95,5 +102,5 @@ fn main() {
         }
         left -= 1;
     }
-    lines::flush(out, at);
+    lines::flush(&rt, out, at)
 }

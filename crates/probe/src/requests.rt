@@ -2,9 +2,10 @@
 ghost use Rattle.std.specs.Prelude.{◌≤◌};
 
 use crate::answers::{put_checked, put_inferred, put_marking, put_memory, put_ran, put_read};
-use crate::input::Number;
+use crate::input::{Number, entry, half, read_full, word};
 use crate::lines::put;
-use libc::STDIN_FILENO;
+use std::io;
+use std::io::Read;
 
 // A request that was answered: the bytes that it took, and how much of the output is filled; or one that is bad.
 #[derive(Clone, Copy)]
@@ -15,52 +16,51 @@ pub enum Answered {
 
 // Bytes with their 16-bit length in front, into the start of a buffer: how many there are.
 // Input that ends early and more bytes than the buffer has room for are both cut.
-fn read_part(buf: &mut [u8]) -> Number {
-    match crate::input::half() {
-        Number::Cut => Number::Cut,
-        Number::Is(n) => read_bytes(buf, n as usize),
-    }
+fn read_part<R: Read>(input: &mut R, buf: &mut [u8]) -> io::Result<Number> {
+    let Number::Is(n) = half(input)? else {
+        return Ok(Number::Cut);
+    };
+    read_bytes(input, buf, n as usize)
 }
 
-fn read_bytes(buf: &mut [u8], n: usize) -> Number {
+fn read_bytes<R: Read>(input: &mut R, buf: &mut [u8], n: usize) -> io::Result<Number> {
     if buf.len() < n {
-        return Number::Cut;
+        return Ok(Number::Cut);
     }
-    let got = io::read_full(STDIN_FILENO, &mut buf[..n]);
+    let got = read_full(input, &mut buf[..n])?;
     if got < n {
-        return Number::Cut;
+        return Ok(Number::Cut);
     }
-    Number::Is(n as u64)
+    Ok(Number::Is(n as u64))
 }
 
 // Entries of the lent memory, with their 16-bit number in front.
-fn read_memory(memory: &mut [u64]) -> Number {
-    match crate::input::half() {
-        Number::Cut => Number::Cut,
-        Number::Is(n) => read_entries(memory, n as usize),
-    }
+fn read_memory<R: Read>(input: &mut R, memory: &mut [u64]) -> io::Result<Number> {
+    let Number::Is(n) = half(input)? else {
+        return Ok(Number::Cut);
+    };
+    read_entries(input, memory, n as usize)
 }
 
-fn read_entries(memory: &mut [u64], n: usize) -> Number {
+fn read_entries<R: Read>(input: &mut R, memory: &mut [u64], n: usize) -> io::Result<Number> {
     if memory.len() < n {
-        return Number::Cut;
+        return Ok(Number::Cut);
     }
     let mut i: usize = 0;
     while i < n {
-        let next = crate::input::entry();
-        let Number::Is(e) = next else {
-            return Number::Cut;
+        let Number::Is(e) = entry(input)? else {
+            return Ok(Number::Cut);
         };
         memory[i] = e;
         i += 1;
     }
-    Number::Is(n as u64)
+    Ok(Number::Is(n as u64))
 }
 
 // The line ends.
-fn line(used: u64, out: &mut [u8], at: usize) -> Answered {
-    let end = put(out, at, b'\n');
-    Answered::Line(used, end)
+fn line(rt: &HostRuntime, used: u64, out: &mut [u8], at: usize) -> io::Result<Answered> {
+    let end = put(rt, out, at, b'\n')?;
+    Ok(Answered::Line(used, end))
 }
 
 // What n bytes take with their length in front.
@@ -71,18 +71,24 @@ fn sized(n: usize) -> u64
 }
 
 // `R`: a file is read.
-pub fn answer_read(file: &mut [u8], out: &mut [u8], at: usize) -> Answered {
-    let part = read_part(file);
+pub fn answer_read<R: Read>(
+    rt: &HostRuntime,
+    input: &mut R,
+    file: &mut [u8],
+    out: &mut [u8],
+    at: usize,
+) -> io::Result<Answered> {
+    let part = read_part(input, file)?;
     let Number::Is(n) = part else {
-        return Answered::Bad;
+        return Ok(Answered::Bad);
     };
     let k = n as usize;
     if file.len() < k {
-        return Answered::Bad;
+        return Ok(Answered::Bad);
     }
     let answer = reader::read(&file[..k]);
-    let end = put_read(out, at, answer);
-    line(sized(k), out, end)
+    let end = put_read(rt, out, at, answer)?;
+    line(rt, sized(k), out, end)
 }
 
 // The lengths of a file and a marking that were read; or they are cut.
@@ -92,65 +98,80 @@ enum Two {
     Cut,
 }
 
-fn read_two(file: &mut [u8], marking: &mut [u8]) -> Two {
-    let first = read_part(file);
+fn read_two<R: Read>(input: &mut R, file: &mut [u8], marking: &mut [u8]) -> io::Result<Two> {
+    let first = read_part(input, file)?;
     let Number::Is(n) = first else {
-        return Two::Cut;
+        return Ok(Two::Cut);
     };
-    let second = read_part(marking);
+    let second = read_part(input, marking)?;
     let Number::Is(m) = second else {
-        return Two::Cut;
+        return Ok(Two::Cut);
     };
-    Two::Are(n as usize, m as usize)
+    Ok(Two::Are(n as usize, m as usize))
 }
 
 // `C`: a marking is checked.
-pub fn answer_check(file: &mut [u8], marking: &mut [u8], out: &mut [u8], at: usize) -> Answered {
-    let parts = read_two(file, marking);
+pub fn answer_check<R: Read>(
+    rt: &HostRuntime,
+    input: &mut R,
+    file: &mut [u8],
+    marking: &mut [u8],
+    out: &mut [u8],
+    at: usize,
+) -> io::Result<Answered> {
+    let parts = read_two(input, file, marking)?;
     let Two::Are(k, j) = parts else {
-        return Answered::Bad;
+        return Ok(Answered::Bad);
     };
     if file.len() < k {
-        return Answered::Bad;
+        return Ok(Answered::Bad);
     }
     if marking.len() < j {
-        return Answered::Bad;
+        return Ok(Answered::Bad);
     }
     let answer = checker::check(&file[..k], &marking[..j]);
-    let end = put_checked(out, at, answer);
-    line(sized(k) + sized(j), out, end)
+    let end = put_checked(rt, out, at, answer)?;
+    line(rt, sized(k) + sized(j), out, end)
 }
 
 // `I`: a file's marking is inferred into a lent one.
-pub fn answer_infer(file: &mut [u8], marking: &mut [u8], out: &mut [u8], at: usize) -> Answered {
-    let parts = read_two(file, marking);
+pub fn answer_infer<R: Read>(
+    rt: &HostRuntime,
+    input: &mut R,
+    file: &mut [u8],
+    marking: &mut [u8],
+    out: &mut [u8],
+    at: usize,
+) -> io::Result<Answered> {
+    let parts = read_two(input, file, marking)?;
     let Two::Are(k, j) = parts else {
-        return Answered::Bad;
+        return Ok(Answered::Bad);
     };
     if file.len() < k {
-        return Answered::Bad;
+        return Ok(Answered::Bad);
     }
     if marking.len() < j {
-        return Answered::Bad;
+        return Ok(Answered::Bad);
     }
     let answer = infer::infer(&file[..k], &mut marking[..j]);
-    let said = put_inferred(out, at, answer);
-    let end = put_marking(out, said, &marking[..j]);
-    line(sized(k) + sized(j), out, end)
+    let said = put_inferred(rt, out, at, answer)?;
+    let end = put_marking(rt, out, said, &marking[..j])?;
+    line(rt, sized(k) + sized(j), out, end)
 }
 
 // The run of an `X`, and its line without the end.
 fn put_run(
+    rt: &HostRuntime,
     file: &[u8],
     marking: &[u8],
     fuel: u32,
     memory: &mut [u64],
     out: &mut [u8],
     at: usize,
-) -> usize {
+) -> io::Result<usize> {
     let answer = runner::run(file, marking, fuel, memory);
-    let said = put_ran(out, at, answer);
-    put_memory(out, said, memory)
+    let said = put_ran(rt, out, at, answer)?;
+    put_memory(rt, out, said, memory)
 }
 
 // The fuel and the number of entries of an `X`; or they are cut.
@@ -160,43 +181,45 @@ enum Rest {
     Cut,
 }
 
-fn read_rest(memory: &mut [u64]) -> Rest {
-    let third = crate::input::word();
+fn read_rest<R: Read>(input: &mut R, memory: &mut [u64]) -> io::Result<Rest> {
+    let third = word(input)?;
     let Number::Is(fuel) = third else {
-        return Rest::Cut;
+        return Ok(Rest::Cut);
     };
-    let fourth = read_memory(memory);
+    let fourth = read_memory(input, memory)?;
     let Number::Is(e) = fourth else {
-        return Rest::Cut;
+        return Ok(Rest::Cut);
     };
-    Rest::Is((fuel % 4294967296) as u32, e as usize)
+    Ok(Rest::Is((fuel % 4294967296) as u32, e as usize))
 }
 
 // `X`: a file is run under a marking.
-pub fn answer_run(
+pub fn answer_run<R: Read>(
+    rt: &HostRuntime,
+    input: &mut R,
     file: &mut [u8],
     marking: &mut [u8],
     memory: &mut [u64],
     out: &mut [u8],
     at: usize,
-) -> Answered {
-    let parts = read_two(file, marking);
+) -> io::Result<Answered> {
+    let parts = read_two(input, file, marking)?;
     let Two::Are(k, j) = parts else {
-        return Answered::Bad;
+        return Ok(Answered::Bad);
     };
-    let rest = read_rest(memory);
+    let rest = read_rest(input, memory)?;
     let Rest::Is(fuel, i) = rest else {
-        return Answered::Bad;
+        return Ok(Answered::Bad);
     };
     if file.len() < k {
-        return Answered::Bad;
+        return Ok(Answered::Bad);
     }
     if marking.len() < j {
-        return Answered::Bad;
+        return Ok(Answered::Bad);
     }
     if memory.len() < i {
-        return Answered::Bad;
+        return Ok(Answered::Bad);
     }
-    let end = put_run(&file[..k], &marking[..j], fuel, &mut memory[..i], out, at);
-    line(sized(k) + sized(j) + 6 + 8 * ((i % 65536) as u64), out, end)
+    let end = put_run(rt, &file[..k], &marking[..j], fuel, &mut memory[..i], out, at)?;
+    line(rt, sized(k) + sized(j) + 6 + 8 * ((i % 65536) as u64), out, end)
 }
