@@ -13,8 +13,8 @@ use Rattle.rules.specs.Basic.{fine, refused, Bytes}
 use Rattle.rules.specs.Table.{routine}
 use Rattle.rules.specs.Kinds.{kinds}
 use Rattle.rules.specs.Calls.{formed, judged, checking, read_says}
-use Rattle.laws.specs.Read.{formed_fine}
-use Rattle.laws.specs.Known.{formed_known, formed_reading}
+use Rattle.laws.proofs.WellRead.{formed_known, formed_fine}
+use Rattle.laws.specs.Known.{formed_reading}
 use Rattle.reader.specs.Tables.{ReadTyped}
 use Rattle.needs.specs.Typed.{Typed}
 use Rattle.checker.specs.Judge.{CheckedTyped}

@@ -1,5 +1,6 @@
 // The checker: whether a marking is acceptable, refusals 7 and 8.
 #![tactic(auto)]
+
 ghost use Rattle.std.specs.Prelude.{◌≡◌, ℕ, suc, ◌+◌, ◌≤◌, ◌<◌, length, get_or, leb};
 ghost use Rattle.rules.specs.Kinds.{kinds, kind_converts, targets_matter, need_met, type_kind, expr_kind, command_kind};
 ghost use Rattle.rules.specs.Basic.{half, fine};
@@ -124,6 +125,7 @@ fn spreads(a: u8, b: u8) -> bool
 }
 
 // The index of the first byte that is no kind, or the marking's length.
+#[tactic(auto, using(crate::specs::First::found))]
 fn bad_byte(marking: &[u8]) -> usize
     ensures { FirstBad (λ i. leb (get_or marking.now i 0) 2) (length marking.now) result }
 {

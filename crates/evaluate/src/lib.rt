@@ -1,5 +1,6 @@
 // Expression rows, run from the table.
 #![tactic(auto)]
+
 ghost use Rattle.std.specs.Prelude.{◌≡◌, ℕ, ◌≤◌};
 ghost use Rattle.words.specs.Ops.{op_sum};
 ghost use Rattle.words.specs.Words.{op_in, high_in};

@@ -1,5 +1,6 @@
 // Command rows, run from the table.
 #![tactic(auto)]
+
 ghost use Rattle.std.specs.Prelude.{◌≡◌};
 ghost use Rattle.words.specs.Ops.{op_then, op_store, op_if, op_while};
 ghost use Rattle.execute.specs.Commands.{Commanded, Entered, Storing, ran_told, meant_run, entered_run, storing_run, stopped_of};

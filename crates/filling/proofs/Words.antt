@@ -18,12 +18,12 @@ use Rattle.rules.specs.declared.Kind.{Kind}
 use Rattle.rules.specs.declared.Kind.TheVariants.{int, SAFE, SEQ, DYNAMIC}
 use Rattle.rules.specs.Kinds.{kind_of, kind, Acceptable}
 use Rattle.rules.specs.Tests.{parts_true, in_range_lem, false_true}
+use Rattle.laws.proofs.WellRead.{formed_known, formed_fine}
 use Rattle.laws.specs.Formed.{Formed, type_le}
-use Rattle.laws.specs.Read.{judged_fine, formed_fine}
+use Rattle.laws.specs.Read.{judged_fine}
 use Rattle.words.specs.Ops.{op_store}
 use Rattle.words.specs.Words.{Packed, PackedCommand, home_op, home_field, null_op, cast_op, read_op, operator_op, access_of, keep_of, start_in, ExprWord, CommandWord, Homes}
 use Rattle.laws.specs.WellRead.{WellRead}
-use Rattle.laws.specs.Known.{formed_known}
 use Rattle.view.specs.Means.{expr_means, command_means, home_has, home_in_range, expr_in_range, command_in_range}
 use Rattle.view.specs.Tags.{expr_none, expr_op, expr_over}
 use Rattle.view.specs.declared.ExprRow.{ExprRow}

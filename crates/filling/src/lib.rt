@@ -1,5 +1,6 @@
 // The filling of the table: the word of each row of a file under a marking, and of each home.
 #![tactic(auto)]
+
 ghost use Rattle.std.specs.Prelude.{◌≡◌, ℕ, ◌+◌, ◌*◌, ◌≤◌, ◌<◌, length, get_or};
 ghost use Rattle.rules.specs.Basic.{half};
 ghost use Rattle.rules.specs.Kinds.{kind};

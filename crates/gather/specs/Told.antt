@@ -7,8 +7,8 @@ use Rattle.rules.specs.declared.ReadAnswer.{ReadAnswer}
 use Rattle.rules.specs.declared.ReadAnswer.TheVariants as reads
 use Rattle.rules.specs.Basic.{fine, Bytes}
 use Rattle.rules.specs.Calls.{formed, read_says, refusal}
-use Rattle.laws.specs.Read.{formed_fine}
-use Rattle.laws.specs.Known.{formed_reading, formed_known}
+use Rattle.laws.proofs.WellRead.{formed_known, formed_fine}
+use Rattle.laws.specs.Known.{formed_reading}
 use Rattle.reader.specs.Tables.{ReadTyped}
 use Rattle.needs.specs.Typed.{Typed}
 

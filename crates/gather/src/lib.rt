@@ -1,5 +1,6 @@
 // What a file's rows ask of kinds: conversions listed, seeds marked.
 #![tactic(auto)]
+
 ghost use Rattle.std.specs.Prelude.{◌≡◌, ℕ, ◌+◌, ◌≤◌, ◌<◌, length, take, replicate, get_or};
 ghost use Rattle.rules.specs.Basic.{half};
 ghost use Rattle.rules.specs.Table.{routine};

@@ -1,6 +1,7 @@
 // Reads one routine file on standard input and runs it under its inferred marking with fuel 1,000,000.
 // It prints a line for each type, number and kind, then outcome, place and units; or only a refusal, number and place.
 #![tactic(auto)]
+
 ghost use Rattle.std.specs.Prelude.{◌≤◌, length, IfOk};
 
 use rules::{InferAnswer, Outcome, Refusal, Report, RunAnswer};

@@ -40,7 +40,7 @@ last_row : (s : List ℕ) (c : Section) (q n : ℕ) → q ≤ length s → ((i :
 last_row s c q zero h each = omega arith
 last_row s c q (suc n) h each = rw mul-suc (omega (arith, (each n (omega arith)).whole))
 
-section_known : {X : Type 0} (s : List ℕ) (c : Section) (q : ℕ) (go : ℕ → ℕ → Verdict X) (x : X)
+pub section_known : {X : Type 0} (s : List ℕ) (c : Section) (q : ℕ) (go : ℕ → ℕ → Verdict X) (x : X)
     → section s c q go ≡ fine x → Whole s c q × (go (q + 2 + row_bytes c * half s q) (half s q) ≡ fine x)
 unfolding section
 section_known s c q go x h =
@@ -106,35 +106,8 @@ module _ {s : List ℕ} {h q : ℕ} where
 
 -- ---- the whole
 
--- The four sections that every file has: what is known behind them, and of the whole file once the rest is.
-pub sections_known : (s : List ℕ) (at : Starts) → sections s ≡ fine at
-    → Placed s at × (Fifth s at.homes at.values → total (layout s (at.homes + 2) 1 (half s at.homes)) ≤ 4096 → WellRead s at)
-unfolding sections
-sections_known s at h =
-    let (types, h₁) = section_known s Types 0 _ at h in
-    let (homes, h₂) = section_known s _ _ _ at h₁ in
-    let (exprs, h₃) = section_known s _ _ _ at h₂ in
-    let (commands, h₄) = section_known s _ _ _ at h₃ in
-    rw (← fine_same h₄) (
-      record { homes = homes; near = omega (arith, types.few); far = omega (arith, types.few, homes.few, exprs.few, commands.few) },
-      λ five few.
-          record {
-            types_at = refl;
-            types = types;
-            homes_at = refl;
-            homes = homes;
-            exprs_at = refl;
-            exprs = exprs;
-            commands_at = refl;
-            commands = commands;
-            values_at = refl;
-            values = five;
-            cells = few;
-          },
-    )
-
 -- Behind the four sections: the start values, refusals 4 and 5.
-behind_known : (s : List ℕ) (at' at : Starts)
+pub behind_known : (s : List ℕ) (at' at : Starts)
     → (fifth s at' λ end. guard 4 end (eqb end (length s)) λ _. cells s (at'.homes + 2) 0 (half s at'.homes) λ _. fine at') ≡ fine at
     → Fifth s at'.homes at'.values × (total (layout s (at'.homes + 2) 1 (half s at'.homes)) ≤ 4096) × (at' ≡ at)
 behind_known s at' at k =
@@ -155,14 +128,6 @@ reading_sections s at h =
     let (at', (a, b)) = unrefused (sections s) _ at h in
     let (five, few, e) = behind_known s at' at b in
     rw (← e) a
-
--- Refusals 1 to 5.
-pub reading_known : (s : List ℕ) (at : Starts) → reading s ≡ fine at → WellRead s at
-unfolding reading
-reading_known s at h =
-    let (at', (a, b)) = unrefused (sections s) _ at h in
-    let (five, few, e) = behind_known s at' at b in
-    rw (← e) ((sections_known s at' a).1 five few)
 
 -- So the commands end early.
 pub values_near : {s : List ℕ} {at : Starts} → WellRead s at → at.values ≤ 13062
@@ -193,7 +158,7 @@ unfolding rising
 rising_known r go x h = none_bad 10 (λ i. rises r i) r.value_place r.values go x h
 
 -- A well-formed file was read, its start rows rise, and it is shaped.
-formed_parts : (s : List ℕ) (at : Starts) → formed s ≡ fine at → (reading s ≡ fine at) × (Rising (routine s at) × Shaped (routine s at))
+pub formed_parts : (s : List ℕ) (at : Starts) → formed s ≡ fine at → (reading s ≡ fine at) × (Rising (routine s at) × Shaped (routine s at))
 unfolding formed
 formed_parts s at h =
     let (at', (a, b)) = unrefused (reading s) _ at h in
@@ -204,9 +169,6 @@ formed_parts s at h =
 
 pub formed_reading : (s : List ℕ) (at : Starts) → formed s ≡ fine at → reading s ≡ fine at
 formed_reading s at h = (formed_parts s at h).0
-
-pub formed_known : (s : List ℕ) (at : Starts) → formed s ≡ fine at → WellRead s at
-formed_known s at h = reading_known s at (formed_parts s at h).0
 
 pub formed_rising : (s : List ℕ) (at : Starts) → formed s ≡ fine at → Rising (routine s at)
 formed_rising s at h = (formed_parts s at h).1.0

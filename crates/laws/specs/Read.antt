@@ -14,7 +14,7 @@ use Rattle.rules.specs.Calls.{formed, judged}
 use Rattle.rules.specs.Tests.{fine_same, false_true, parts_true, by_test, in_range_lem, both_less}
 use Rattle.rules.specs.Tested.{kinds_acceptable, acceptable_kinds}
 use Rattle.laws.specs.WellRead.{WellRead}
-use Rattle.laws.specs.Known.{unrefused, values_good, formed_known, formed_shaped}
+use Rattle.laws.specs.Known.{unrefused, values_good, formed_shaped}
 use Rattle.laws.specs.Formed.{Fits, CommandFits, ValueFits, Consecutive, last, behind, Formed}
 
 -- ---- homes
@@ -31,7 +31,7 @@ layout_real s q from zero i h = absurd (not-suc-le-zero h)
 layout_real s q from (suc n) zero h = omega arith
 layout_real s q from (suc n) (suc i) h = omega (arith, layout_real s (q + 4) (from + half s (q + 2)) n i h)
 
-layout_consecutive : (s : List ℕ) (q from n : ℕ) → Consecutive from (layout s q from n)
+pub layout_consecutive : (s : List ℕ) (q from n : ℕ) → Consecutive from (layout s q from n)
 layout_consecutive s q from zero = last
 layout_consecutive s q from (suc n) = behind refl (layout_consecutive s (q + 4) (from + half s (q + 2)) n)
 
@@ -155,24 +155,6 @@ module _ {s : List ℕ} {at : Starts} (read : WellRead s at) where
       }
 
 -- ---- from verdicts
-
--- A well-formed file stands for a well-formed routine.
-pub formed_fine : {s : List ℕ} {at : Starts} → Bytes s → formed s ≡ fine at → Formed (routine s at)
-formed_fine {s} {at} bytes h =
-    let rows = formed_known s at h in
-    let shaped = formed_shaped s at h in
-    record {
-      falls = record { by = λ t l. target_falls rows t l };
-      homed = λ {g = g} y. homed rows g y;
-      nowhere = refl;
-      single = refl;
-      consecutive = layout_consecutive s (at.homes + 2) 1 (half s at.homes);
-      few = rows.cells;
-      some = rows.commands.least;
-      exprs = λ e l. (expr_row_fits rows bytes e l, shaped.exprs e l);
-      commands = λ c l. (command_row_fits rows c l, shaped.commands c l);
-      values = λ i l. (value_row_fits rows bytes i l, shaped.values i l);
-    }
 
 -- Refusals 7 and 8 leave an acceptable marking, and refuse no other.
 pub judged_fine : (s m : List ℕ) {at : Starts} → judged s m ≡ fine at → (formed s ≡ fine at) × Acceptable (routine s at) m

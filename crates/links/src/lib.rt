@@ -1,5 +1,6 @@
 // Types that conversions make equal, linked level by level.
 #![tactic(auto)]
+
 ghost use Rattle.std.specs.Prelude.{◌≡◌, ℕ, ◌≤◌, ◌<◌, length};
 ghost use Rattle.raise.specs.Marks.{at};
 ghost use Rattle.raise.specs.Demands.{Falls, Ref, Tables, Lists};

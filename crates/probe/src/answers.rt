@@ -16,7 +16,13 @@ fn put_refusal(rt: &HostRuntime, out: &mut [u8], at: usize, r: Refusal) -> io::R
 }
 
 // `check-` and its number, then the place.
-fn put_check(rt: &HostRuntime, out: &mut [u8], at: usize, number: u32, place: u32) -> io::Result<usize> {
+fn put_check(
+    rt: &HostRuntime,
+    out: &mut [u8],
+    at: usize,
+    number: u32,
+    place: u32,
+) -> io::Result<usize> {
     let word = put_word(rt, out, at, b"check-")?;
     let end = put_number(rt, out, word, number as u64)?;
     put_next(rt, out, end, place as u64)
@@ -48,7 +54,12 @@ fn put_places(rt: &HostRuntime, out: &mut [u8], at: usize, s: Starts) -> io::Res
 }
 
 // `R`: the places of the five counts.
-pub fn put_read(rt: &HostRuntime, out: &mut [u8], at: usize, answer: ReadAnswer) -> io::Result<usize> {
+pub fn put_read(
+    rt: &HostRuntime,
+    out: &mut [u8],
+    at: usize,
+    answer: ReadAnswer,
+) -> io::Result<usize> {
     match answer {
         ReadAnswer::WellFormed(s) => {
             let word = put_word(rt, out, at, b"read")?;
@@ -60,7 +71,12 @@ pub fn put_read(rt: &HostRuntime, out: &mut [u8], at: usize, answer: ReadAnswer)
 }
 
 // `C`
-pub fn put_checked(rt: &HostRuntime, out: &mut [u8], at: usize, answer: CheckAnswer) -> io::Result<usize> {
+pub fn put_checked(
+    rt: &HostRuntime,
+    out: &mut [u8],
+    at: usize,
+    answer: CheckAnswer,
+) -> io::Result<usize> {
     match answer {
         CheckAnswer::Accepted => put_word(rt, out, at, b"accepted"),
         CheckAnswer::Refused(r) => put_refusal(rt, out, at, r),
@@ -68,7 +84,12 @@ pub fn put_checked(rt: &HostRuntime, out: &mut [u8], at: usize, answer: CheckAns
 }
 
 // `I`, without the marking
-pub fn put_inferred(rt: &HostRuntime, out: &mut [u8], at: usize, answer: InferAnswer) -> io::Result<usize> {
+pub fn put_inferred(
+    rt: &HostRuntime,
+    out: &mut [u8],
+    at: usize,
+    answer: InferAnswer,
+) -> io::Result<usize> {
     match answer {
         InferAnswer::Marked => put_word(rt, out, at, b"marked"),
         InferAnswer::Refused(r) => put_refusal(rt, out, at, r),
@@ -76,7 +97,12 @@ pub fn put_inferred(rt: &HostRuntime, out: &mut [u8], at: usize, answer: InferAn
 }
 
 // `X`, without the memory
-pub fn put_ran(rt: &HostRuntime, out: &mut [u8], at: usize, answer: RunAnswer) -> io::Result<usize> {
+pub fn put_ran(
+    rt: &HostRuntime,
+    out: &mut [u8],
+    at: usize,
+    answer: RunAnswer,
+) -> io::Result<usize> {
     match answer {
         RunAnswer::Ran(r) => put_report(rt, out, at, r),
         RunAnswer::Refused(r) => put_refusal(rt, out, at, r),
@@ -84,7 +110,12 @@ pub fn put_ran(rt: &HostRuntime, out: &mut [u8], at: usize, answer: RunAnswer) -
 }
 
 // ` :` and the lent marking.
-pub fn put_marking(rt: &HostRuntime, out: &mut [u8], at: usize, marking: &[u8]) -> io::Result<usize> {
+pub fn put_marking(
+    rt: &HostRuntime,
+    out: &mut [u8],
+    at: usize,
+    marking: &[u8],
+) -> io::Result<usize> {
     let mut end = put_word(rt, out, at, b" :")?;
     let mut i: usize = 0;
     while i < marking.len() {
@@ -99,7 +130,12 @@ fn put_byte(rt: &HostRuntime, out: &mut [u8], at: usize, b: u8) -> io::Result<us
 }
 
 // ` :` and the lent memory.
-pub fn put_memory(rt: &HostRuntime, out: &mut [u8], at: usize, memory: &[u64]) -> io::Result<usize> {
+pub fn put_memory(
+    rt: &HostRuntime,
+    out: &mut [u8],
+    at: usize,
+    memory: &[u64],
+) -> io::Result<usize> {
     let mut end = put_word(rt, out, at, b" :")?;
     let mut i: usize = 0;
     while i < memory.len() {

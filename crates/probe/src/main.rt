@@ -1,5 +1,6 @@
 // Answers a stream of requests on standard input, a line each. docs/PROBE.md has the protocol.
 #![tactic(auto)]
+
 mod answers;
 mod input;
 mod lines;

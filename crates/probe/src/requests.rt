@@ -220,6 +220,19 @@ pub fn answer_run<R: Read>(
     if memory.len() < i {
         return Ok(Answered::Bad);
     }
-    let end = put_run(rt, &file[..k], &marking[..j], fuel, &mut memory[..i], out, at)?;
-    line(rt, sized(k) + sized(j) + 6 + 8 * ((i % 65536) as u64), out, end)
+    let end = put_run(
+        rt,
+        &file[..k],
+        &marking[..j],
+        fuel,
+        &mut memory[..i],
+        out,
+        at,
+    )?;
+    line(
+        rt,
+        sized(k) + sized(j) + 6 + 8 * ((i % 65536) as u64),
+        out,
+        end,
+    )
 }

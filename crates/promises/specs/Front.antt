@@ -18,8 +18,9 @@ use Rattle.rules.specs.Calls.{formed, judged, checking, Left, inferable, Inferre
 use Rattle.rules.specs.Tested.{refused_fine}
 use Rattle.rules.specs.Tests.{false_true, in_range_lem}
 use Rattle.promises.specs.Promises.{FirstBytes, SameCalls, FirstBytesDecide}
+use Rattle.laws.proofs.WellRead.{sections_known, reading_known}
 use Rattle.laws.specs.WellRead.{Placed, Fifth, absent, present, WellRead}
-use Rattle.laws.specs.Known.{sections_known, values_near, reading_known}
+use Rattle.laws.specs.Known.{values_near}
 
 guard_same : {X : Type 0} (n p : ℕ) (b c : Bool) (go go' : Unit {0} → Verdict X) → b ≡ c → (b ≡ true → go tt ≡ go' tt) → guard n p b go ≡ guard n p c go'
 guard_same n p true true go go' e h = h refl

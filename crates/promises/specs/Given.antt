@@ -10,11 +10,11 @@ use Rattle.rules.specs.Memory.{State, cell}
 use Rattle.rules.specs.Start.{start_address, given_in, cleared, given, start}
 use Rattle.rules.specs.Tests.{parts_true}
 use Rattle.promises.specs.Promises.{Starting, StartingMemory}
+use Rattle.laws.proofs.WellRead.{formed_fine}
 use Rattle.laws.specs.Store.{cell_same, cell_other}
 use Rattle.laws.specs.Formed.{Formed}
 use Rattle.laws.specs.Known.{Rising, formed_rising}
 use Rattle.laws.specs.Start.{start_laid, blank_at, given_ok, row_in, given_small}
-use Rattle.laws.specs.Read.{formed_fine}
 
 -- ---- rows rise
 

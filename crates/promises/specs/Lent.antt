@@ -25,10 +25,11 @@ use Rattle.rules.specs.Calls.{cell_count, running, runnable, reported}
 use Rattle.rules.specs.Tests.{false_true, parts_true, by_test}
 use Rattle.promises.specs.Promises.{Alone, SameRun}
 use Rattle.promises.specs.ReadSteps.{read_of}
+use Rattle.laws.proofs.WellRead.{formed_fine}
 use Rattle.laws.specs.Formed.{Consecutive, last, behind, Formed}
 use Rattle.laws.specs.Depth.{then_same, enter_same}
 use Rattle.laws.specs.Start.{length_start}
-use Rattle.laws.specs.Read.{formed_fine, judged_fine}
+use Rattle.laws.specs.Read.{judged_fine}
 
 -- The homes reach no further than n cells.
 record Reached (n : ℕ) (hs : List Home) : Type 0 where

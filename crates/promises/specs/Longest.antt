@@ -15,8 +15,9 @@ use Rattle.rules.specs.Reading.{row_bytes, fewest, most, row_good}
 use Rattle.rules.specs.Shape.{home_at}
 use Rattle.rules.specs.Tests.{both_true}
 use Rattle.promises.specs.Promises.{Longest}
+use Rattle.laws.proofs.WellRead.{formed_known}
 use Rattle.laws.specs.WellRead.{Whole, present, WellRead}
-use Rattle.laws.specs.Known.{Shaped, Rising, formed_known}
+use Rattle.laws.specs.Known.{Shaped, Rising}
 use Rattle.laws.specs.Read.{homed, value_row_fits}
 use Rattle.promises.specs.Front.{read_short}
 use Rattle.promises.specs.Given.{lower, earlier, before_below}

@@ -56,9 +56,9 @@ module _ {X : Type 0} where
       (only_guard 2 q (in_range (fewest c) (half s q) (most c)) _ (inl (omega arith))
       (only_scan (row_read s c (q + 2))
       (λ i k l.
-        let p = row_place (q + 2) (row_bytes c) i in
-        only_guard 1 p (leb (p + row_bytes c) (length s)) (λ _. guard 3 p (row_good s c i p) k) (inl (omega arith))
-        (only_guard 3 p (row_good s c i p) k (inl (omega arith)) l))
+      let p = row_place (q + 2) (row_bytes c) i in
+      only_guard 1 p (leb (p + row_bytes c) (length s)) (λ _. guard 3 p (row_good s c i p) k) (inl (omega arith))
+      (only_guard 3 p (row_good s c i p) k (inl (omega arith)) l))
       0 (half s q) (λ _. go (row_place (q + 2) (row_bytes c) (half s q)) (half s q)) (h _ _)))
 
   cells_only : (s : List ℕ) (q before n : ℕ) (go : Unit {0} → Verdict X) → Only OfReading (go tt) → Only OfReading (cells s q before n go)

@@ -24,6 +24,7 @@ use Rattle.rules.specs.Tests.{false_true, fine_same}
 use Rattle.rules.specs.Tested.{refused_fine, passed}
 use Rattle.rules.specs.Ends.{Proper, Ends, at_done, at_stop, left_after}
 use Rattle.promises.specs.Promises.{Safety, Spending, Prefixes, Surplus, Afterwards, MadeOfNumber, Equal, AllDynamic, Exactly, Demanded, LeastMarking, LeastExists, OneInference, SomeInference, MarksAccepted, OnlyTooShort, Regular, is_done, is_fuel, is_check, Endings, Within, Rows}
+use Rattle.laws.proofs.WellRead.{formed_known, formed_fine}
 use Rattle.laws.specs.Values.{null_address, valid_same}
 use Rattle.laws.specs.Steps.{Steps, still, next, steps_valid}
 use Rattle.laws.specs.Formed.{Formed, type_le}
@@ -31,8 +32,8 @@ use Rattle.laws.specs.Sound.{exec_ok}
 use Rattle.laws.specs.Units.{exec_spends}
 use Rattle.promises.specs.Prefix.{exec_longer}
 use Rattle.laws.specs.Start.{length_start, start_laid, start_ok, given_past}
-use Rattle.laws.specs.Known.{unrefused, formed_known, formed_rising}
-use Rattle.laws.specs.Read.{null_ref, formed_fine, judged_fine, acceptable_judged}
+use Rattle.laws.specs.Known.{unrefused, formed_rising}
+use Rattle.laws.specs.Read.{null_ref, judged_fine, acceptable_judged}
 use Rattle.laws.specs.Same.{reflexive, symmetric, trans, same_kind_lem, same_bound}
 use Rattle.laws.specs.Dynamic.{all_acceptable}
 use Rattle.promises.specs.Least.{acceptable_meets, meets_acceptable, least_exists, least_unique}

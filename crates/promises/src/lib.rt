@@ -1,5 +1,6 @@
 // What is promised of the rules, and the proofs that no code cites, stand in specs/. This crate has no code.
 #![tactic(auto)]
+
 #[derive(Clone, Copy)]
 pub struct Nothing {
     pub zero: u8,

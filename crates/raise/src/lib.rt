@@ -1,5 +1,6 @@
 // Kinds raised along links, targets and conversions, until they rest.
 #![tactic(auto)]
+
 ghost use Rattle.std.specs.Prelude.{◌≡◌, ℕ, ◌≤◌, ◌<◌, length, false};
 ghost use Rattle.raise.specs.Marks.{Raised};
 ghost use Rattle.raise.specs.Demands.{Ref, Edge, Upward, Level, Row, Outer, Rows, Outers, Whole, Tables, Lists};

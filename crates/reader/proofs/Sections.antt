@@ -23,8 +23,9 @@ use Rattle.rules.specs.Calls.{refusal, read_says}
 use Rattle.rules.specs.Tests.{in_range_lem}
 use Rattle.reader.specs.declared.front.Step.{Step}
 use Rattle.reader.specs.declared.front.Step.TheVariants.{Next, No}
+use Rattle.laws.proofs.WellRead.{sections_known}
 use Rattle.laws.specs.WellRead.{Placed}
-use Rattle.laws.specs.Known.{sections_known, fifth_none}
+use Rattle.laws.specs.Known.{fifth_none}
 use Rattle.reader.specs.Steps.{Sighted, of_values, follow, RowsRead, SectionRead, from_cells, from_end, from_values, from_homes}
 
 abbrev pub no : ℕ → ℕ → Step

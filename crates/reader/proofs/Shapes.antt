@@ -31,8 +31,9 @@ use Rattle.view.specs.declared.ExprRow.{ExprRow}
 use Rattle.view.specs.declared.CommandRow.{CommandRow}
 use Rattle.view.specs.declared.StartRow.{StartRow}
 use Rattle.rules.specs.Tests.{false_true, parts_true, both_less, in_range_lem, fine_same}
+use Rattle.laws.proofs.WellRead.{reading_known}
 use Rattle.laws.specs.WellRead.{WellRead}
-use Rattle.laws.specs.Known.{values_few, values_near, reading_known}
+use Rattle.laws.specs.Known.{values_few, values_near}
 use Rattle.view.specs.Rows.{home_row, type_row, expr_row, command_row, start_row, HomeAsked, TypeAsked}
 use Rattle.view.specs.Tags.{expr_good_op, command_none}
 use Rattle.view.specs.Means.{expr_means, command_means, home_has, expr_in_range, command_in_range, value_home}

@@ -1,5 +1,6 @@
 // The reader: refusals 1 to 6 and 10 for every slice of bytes, and the types of a well-formed file's expression rows.
 #![tactic(auto)]
+
 ghost use Rattle.std.specs.Prelude.{◌≡◌, length};
 ghost use Rattle.rules.specs.Calls.{read_says, formed};
 ghost use Rattle.reader.specs.Tables.{ReadTyped};

@@ -1,5 +1,6 @@
 // The run of a file under a marking: refusals, the table, the starting memory, the body, and the report.
 #![tactic(auto)]
+
 ghost use Rattle.std.specs.Prelude.{◌≡◌, ◌≤◌, ◌<◌, length};
 ghost use Rattle.rules.specs.Table.{routine};
 ghost use Rattle.rules.specs.Run.{run};

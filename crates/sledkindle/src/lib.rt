@@ -1,5 +1,6 @@
 // The calls that a host embeds: include/sledkindle.h describes them. Each has the contract of the call under it.
 #![tactic(auto)]
+
 ghost use Rattle.std.specs.Prelude.{◌≡◌};
 ghost use Rattle.rules.specs.Basic.{refused};
 ghost use Rattle.rules.specs.Calls.{formed, checking, running, outcome_says};

@@ -1,5 +1,6 @@
 // The table of a file's targets, each at its type's number: what comparing types and inference go by.
 #![tactic(auto)]
+
 ghost use Rattle.std.specs.Prelude.{◌≡◌, ◌<◌, length};
 ghost use Rattle.rules.specs.Basic.{half};
 ghost use Rattle.rules.specs.Table.{routine};

@@ -1,5 +1,6 @@
 // The rules for values, over the table's homes: conversions, accesses, operators, and the entries of memory.
 #![tactic(auto)]
+
 ghost use Rattle.std.specs.Prelude.{◌≡◌, ◌<◌, ◌≤◌};
 ghost use Rattle.rules.specs.Table.{operator_of, over, rest, right};
 ghost use Rattle.rules.specs.Memory.{encode, decode};

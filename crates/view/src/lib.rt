@@ -1,6 +1,7 @@
 // The view of a file that was read: its bytes and its five section starts, with one question for the counts and one for the rows of each section.
 // Above each question stands a function with plain parameters that makes the view and asks it; the work is done by functions on the slice.
 #![tactic(auto)]
+
 ghost use Rattle.std.specs.Prelude.{◌≡◌, ◌+◌, ◌≤◌, ◌<◌, length};
 ghost use Rattle.rules.specs.Basic.{half, word};
 ghost use Rattle.laws.specs.WellRead.{WellRead};

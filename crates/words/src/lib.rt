@@ -5,6 +5,7 @@
 // command     | op    | a             | b             | c             | d     |
 // home        | start                         | size                          |
 #![tactic(auto)]
+
 ghost use Rattle.std.specs.Prelude.{◌≡◌, ◌+◌, ◌*◌, ◌<◌};
 ghost use Rattle.words.specs.Words.{op_in, a_in, b_in, c_in, d_in, low_in, high_in, start_in, size_in, Packed, PackedCommand};
 

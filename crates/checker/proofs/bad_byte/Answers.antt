@@ -7,9 +7,6 @@ use Rattle.checker.proofs.bad_byte.Goals as goal
 pub loop-i-init : goal.loop-i-init
 loop-i-init c = (omega arith, passed_none _)
 
-pub returns-then-marking-i-gt2 : goal.returns-then-marking-i-gt2
-returns-then-marking-i-gt2 c = found _ _ _ c.loop-i.invariant.1 c.loop-i-test.true (lt-leb _ _ c.if-marking-i-gt2.true)
-
 pub loop-i-preserved : goal.loop-i-preserved
 loop-i-preserved c = (omega arith, passed_more _ _ c.loop-i.invariant.1 (le-leb _ _ c.if-marking-i-gt2.false))
 

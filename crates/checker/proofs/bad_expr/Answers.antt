@@ -15,13 +15,13 @@ pub met-requires : goal.met-requires
 met-requires c = expr_asked c.requires.0 (omega (arith, c.loop-i-test.true, c.requires.1)) c.expr_need-need.ensures
 
 pub returns-then-not-met : goal.returns-then-not-met
-returns-then-not-met c = λ g. found _ _ _ (c.loop-i.invariant.1 g) c.loop-i-test.true (expr_says g (omega (arith, c.loop-i-test.true, c.requires.1)) c.expr_need-need.ensures c.met.ensures (not-true _ c.if-not-met.true-raw))
+returns-then-not-met c = λ g. found _ _ _ (c.loop-i.invariant.1 g) c.loop-i-test.true (expr_says g (omega (arith, c.loop-i-test.true, c.requires.1)) c.expr_need-need.ensures c.met.ensures c.if-not-met.true)
 
 pub overflow_add-i : goal.overflow_add-i
 overflow_add-i c = omega (arith, c.requires.0.known.file.exprs.few, c.requires.1)
 
 pub loop-i-preserved : goal.loop-i-preserved
-loop-i-preserved c = (omega arith, λ g. passed_more _ _ (c.loop-i.invariant.1 g) (expr_says g (omega (arith, c.loop-i-test.true, c.requires.1)) c.expr_need-need.ensures c.met.ensures (not-false _ c.if-not-met.false-raw)))
+loop-i-preserved c = (omega arith, λ g. passed_more _ _ (c.loop-i.invariant.1 g) (expr_says g (omega (arith, c.loop-i-test.true, c.requires.1)) c.expr_need-need.ensures c.met.ensures c.if-not-met.false))
 
 pub returns : goal.returns
 returns c = λ g. found_none _ _ _ (c.loop-i.invariant.1 g) c.loop-i.invariant.0 c.loop-i-test.false

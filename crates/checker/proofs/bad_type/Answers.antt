@@ -15,13 +15,13 @@ pub type_ok-requires : goal.type_ok-requires
 type_ok-requires c = one_of c.requires c.loop-i-test.true
 
 pub returns-then-not-type_ok : goal.returns-then-not-type_ok
-returns-then-not-type_ok c = λ g. found _ _ _ (c.loop-i.invariant.1 g) c.loop-i-test.true (type_says g c.loop-i-test.true c.type_ok.ensures (not-true _ c.if-not-type_ok.true-raw))
+returns-then-not-type_ok c = λ g. found _ _ _ (c.loop-i.invariant.1 g) c.loop-i-test.true (type_says g c.loop-i-test.true c.type_ok.ensures c.if-not-type_ok.true)
 
 pub overflow_add-i : goal.overflow_add-i
 overflow_add-i c = omega (arith, c.requires.tables.few, c.requires.count)
 
 pub loop-i-preserved : goal.loop-i-preserved
-loop-i-preserved c = (omega arith, λ g. passed_more _ _ (c.loop-i.invariant.1 g) (type_says g c.loop-i-test.true c.type_ok.ensures (not-false _ c.if-not-type_ok.false-raw)))
+loop-i-preserved c = (omega arith, λ g. passed_more _ _ (c.loop-i.invariant.1 g) (type_says g c.loop-i-test.true c.type_ok.ensures c.if-not-type_ok.false))
 
 pub returns : goal.returns
 returns c = λ g. found_none _ _ _ (c.loop-i.invariant.1 g) c.loop-i.invariant.0 c.loop-i-test.false

@@ -7,16 +7,16 @@ pub kinds_convert-requires : goal.kinds_convert-requires
 kinds_convert-requires c = both_small c.requires
 
 pub returns-then-not-kinds_convert : goal.returns-then-not-kinds_convert
-returns-then-not-kinds_convert c = λ g. kinds_refuse g c.kinds_convert.ensures (not-true _ c.if-not-kinds_convert.true-raw)
+returns-then-not-kinds_convert c = λ g. kinds_refuse g c.kinds_convert.ensures c.if-not-kinds_convert.true
 
 pub targets_matter-requires : goal.targets_matter-requires
 targets_matter-requires c = both_small c.requires
 
 pub returns-then-not-targets_matter : goal.returns-then-not-targets_matter
-returns-then-not-targets_matter c = λ g. kinds_suffice g c.kinds_convert.ensures (not-false _ c.if-not-kinds_convert.false-raw) c.targets_matter.ensures (not-true _ c.if-not-targets_matter.true-raw)
+returns-then-not-targets_matter c = λ g. kinds_suffice g c.kinds_convert.ensures c.if-not-kinds_convert.false c.targets_matter.ensures c.if-not-targets_matter.true
 
 pub same-requires : goal.same-requires
-same-requires c = converted_targets c.requires c.kinds_convert.ensures (not-false _ c.if-not-kinds_convert.false-raw) c.targets_matter.ensures (not-false _ c.if-not-targets_matter.false-raw)
+same-requires c = converted_targets c.requires c.kinds_convert.ensures c.if-not-kinds_convert.false c.targets_matter.ensures c.if-not-targets_matter.false
 
 pub returns : goal.returns
-returns c = λ g. targets_decide g c.kinds_convert.ensures (not-false _ c.if-not-kinds_convert.false-raw) c.targets_matter.ensures (not-false _ c.if-not-targets_matter.false-raw) c.same.ensures
+returns c = λ g. targets_decide g c.kinds_convert.ensures c.if-not-kinds_convert.false c.targets_matter.ensures c.if-not-targets_matter.false c.same.ensures

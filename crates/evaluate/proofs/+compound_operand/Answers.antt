@@ -1,6 +1,9 @@
 use mathlib.Core.Path.{refl}
 use native.Mathlib.Omega.{arith}
 use borrow.Author.Rules.{rules}
+use Rattle.std.proofs.Common.{ap}
+use denote.Enum.Declared.{tag_of}
+use Rattle.evaluate.specs.contracts.Answer as answer
 use Rattle.evaluate.proofs.Rows.{earlier, few, no_fuel_lem, a_leaf, has_operands, a_compound, first_before, second_before, first_stops, one_ready, a_one, second_stops, a_two}
 use Prim.Native.Nat.{ℕ, ◌+◌, ◌*◌, ◌<◌}
 use Rattle.evaluate.proofs.+compound_operand.Goals as goal
@@ -9,7 +12,7 @@ pub compound-operand-first-requires : goal.compound-operand-first-requires
 compound-operand-first-requires t c = let l = first_before c.requires.asked _ c.requires.word _ _ 0 c.op_of-op.ensures c.a_of.ensures c.requires.some in (omega (arith, c.decreases, l), earlier c.requires.asked _ l)
 
 pub compound-returns-in_default : goal.compound-returns-in_default
-compound-returns-in_default t c = λ g. first_stops g _ c.requires.word _ _ _ c.op_of-op.ensures c.a_of.ensures c.requires.some _ c.operand-first.ensures _ c.on.ensures c.in_default.in_default-own.keys2
+compound-returns-in_default t c = λ g. first_stops g _ c.requires.word _ _ _ c.op_of-op.ensures c.a_of.ensures c.requires.some _ c.operand-first.ensures _ c.on.ensures (ap (tag_of answer.the_type) c.in_default.is)
 
 pub compound-one-requires : goal.compound-one-requires
 compound-one-requires t c = one_ready c.requires.asked _ c.requires.word _ _ _ c.op_of-op.ensures c.a_of.ensures c.requires.some _ c.operand-first.ensures _ c.in-Done.is c.if-op-lt-SUM.true
@@ -21,7 +24,7 @@ pub compound-operand-second-requires : goal.compound-operand-second-requires
 compound-operand-second-requires t c = let l = second_before c.requires.asked _ c.requires.word _ _ 0 c.op_of-op.ensures c.a_of.ensures _ c.high.ensures c.if-op-lt-SUM.false in (omega (arith, c.decreases, l), earlier c.requires.asked _ l)
 
 pub compound-returns-in_default-second : goal.compound-returns-in_default-second
-compound-returns-in_default-second t c = λ g. second_stops g _ c.requires.word _ _ _ c.op_of-op.ensures c.a_of.ensures c.requires.some _ c.operand-first.ensures _ c.in-Done.is c.if-op-lt-SUM.false _ c.high.ensures _ c.operand-second.ensures _ c.on-in_default-second.ensures c.in_default-second.in_default-second-own.keys2
+compound-returns-in_default-second t c = λ g. second_stops g _ c.requires.word _ _ _ c.op_of-op.ensures c.a_of.ensures c.requires.some _ c.operand-first.ensures _ c.in-Done.is c.if-op-lt-SUM.false _ c.high.ensures _ c.operand-second.ensures _ c.on-in_default-second.ensures (ap (tag_of answer.the_type) c.in_default-second.is)
 
 pub compound-returns : goal.compound-returns
 compound-returns t c = λ g. a_two g _ c.requires.word _ _ _ c.op_of-op.ensures c.a_of.ensures c.requires.some _ c.operand-first.ensures _ c.in-Done.is c.if-op-lt-SUM.false _ c.high.ensures _ c.operand-second.ensures _ _ c.in-Done-second.is c.two.ensures

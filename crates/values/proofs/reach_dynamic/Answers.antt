@@ -15,7 +15,7 @@ pub returns-then-o-size_of : goal.returns-then-o-size_of
 returns-then-o-size_of c = dynamic_in _ _ _ _ c.in-Pair.is c.if-g-eq0.false _ c.size_of.ensures _ _ c.if-o-size_of.true c.start_of.ensures c.wrapping_add_u32.ensures.value
 
 pub returns-in-Number : goal.returns-in-Number
-returns-in-Number c = dynamic_number c.args.t.now c.args.v (tag_number c.args.v c.in-Number.in-Number-own.keys1).0 (tag_number c.args.v c.in-Number.in-Number-own.keys1).1
+returns-in-Number c = dynamic_number c.args.t.now c.args.v _ c.in-Number.is
 
 pub returns-else-o-size_of : goal.returns-else-o-size_of
 returns-else-o-size_of c = dynamic_out _ _ _ _ c.in-Pair.is c.if-g-eq0.false _ c.size_of.ensures c.if-o-size_of.false

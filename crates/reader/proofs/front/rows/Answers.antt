@@ -14,10 +14,10 @@ pub row_good-requires : goal.row_good-requires
 row_good-requires c = (rw (← c.loop-i.invariant.width) c.if-s-at.false, c.requires.3)
 
 pub returns-then-not-row_good : goal.returns-then-not-row_good
-returns-then-not-row_good c = row_bad c.loop-i.invariant c.loop-i-test.true c.if-s-at.false c.no-then-not-row_good.ensures (sym c.row_good.ensures ∙ not-true _ c.if-not-row_good.true-raw)
+returns-then-not-row_good c = row_bad c.loop-i.invariant c.loop-i-test.true c.if-s-at.false c.no-then-not-row_good.ensures (sym c.row_good.ensures ∙ c.if-not-row_good.true)
 
 pub loop-i-preserved : goal.loop-i-preserved
-loop-i-preserved c = row_passed c.loop-i.invariant c.loop-i-test.true c.if-s-at.false (sym c.row_good.ensures ∙ not-false _ c.if-not-row_good.false-raw)
+loop-i-preserved c = row_passed c.loop-i.invariant c.loop-i-test.true c.if-s-at.false (sym c.row_good.ensures ∙ c.if-not-row_good.false)
 
 pub returns : goal.returns
 returns c = rows_passed c.loop-i.invariant c.loop-i-test.false

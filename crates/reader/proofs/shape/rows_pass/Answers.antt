@@ -21,10 +21,10 @@ pub overflow_cast-result : goal.overflow_cast-result
 overflow_cast-result c = omega (arith, c.place_of.ensures.1)
 
 pub returns-then-not-row_passes : goal.returns-then-not-row_passes
-returns-then-not-row_passes c = row_fails c.loop-i.invariant c.loop-i-test.true c.number_of.ensures c.place_of.ensures.0 (sym c.row_passes.ensures ∙ not-true _ c.if-not-row_passes.true-raw)
+returns-then-not-row_passes c = row_fails c.loop-i.invariant c.loop-i-test.true c.number_of.ensures c.place_of.ensures.0 (sym c.row_passes.ensures ∙ c.if-not-row_passes.true)
 
 pub loop-i-preserved : goal.loop-i-preserved
-loop-i-preserved c = row_passed c.loop-i.invariant c.loop-i-test.true (sym c.row_passes.ensures ∙ not-false _ c.if-not-row_passes.false-raw)
+loop-i-preserved c = row_passed c.loop-i.invariant c.loop-i-test.true (sym c.row_passes.ensures ∙ c.if-not-row_passes.false)
 
 pub returns : goal.returns
 returns c = all_passed c.loop-i.invariant c.loop-i-test.false
