@@ -1,6 +1,6 @@
 /* Sledkindle: routines of an emulated disc drive, read, marked, checked and run in lent memory.
  *
- * Link with libsledkindle.a (`rt staticlib sledkindle`). No call allocates, keeps a pointer, writes to
+ * Link with libsledkindle.a (`tools/build`). No call allocates, keeps a pointer, writes to
  * standard output or changes anything but the marking or memory that is lent to it. Any file, marking,
  * fuel and lent length gets an answer; a refused call writes nothing.
  *

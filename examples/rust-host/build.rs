@@ -1,4 +1,4 @@
-//! Links the static library that `rt staticlib sledkindle` writes.
+//! Links the static library that `tools/build` lays there.
 
 fn main() {
     let here = std::env::var("CARGO_MANIFEST_DIR").expect("cargo sets it");

@@ -3,7 +3,7 @@ use mathlib.Core.Path.{◌≡◌, refl, sym, ap, ◌∙◌}
 use Prim.Native.Nat.{ℕ, zero, suc, ◌+◌, ◌-◌, ◌<◌, ◌≤◌}
 use native.Mathlib.Numerals.{sub-one}
 use native.Mathlib.Omega.{arith}
-use mathlib.Core.List.{List, [], ◌∷◌}
+use mathlib.Core.List.{List}
 use denote.Enum.Declared.{tag_of}
 use Rattle.rules.specs.declared.Value.{Value}
 use Rattle.rules.specs.Basic.{choose}
@@ -25,7 +25,6 @@ use Rattle.evaluate.specs.declared.Got.{Got}
 use Rattle.evaluate.specs.declared.Answer.{Answer}
 use Rattle.evaluate.specs.declared.Answer.TheVariants as answers
 use Rattle.evaluate.specs.Rows.{told, Asked}
-use Rattle.execute.specs.contracts.Ran as ran
 use Rattle.execute.proofs.Rows.{while_row, while_early, stop_told_lem, ran_told_lem, rule_fine, truth_false, truth_true, valid_after, command, expression, Valued, Carried, sound, is_op, is_first, is_second}
 use Rattle.execute.specs.declared.Ran.{Ran}
 use Rattle.execute.specs.declared.Ran.TheVariants.{Done, Fuel}

@@ -1,11 +1,10 @@
 -- A command row by its word: the equations that the carrying out goes by, and what soundness gives the code there.
 use mathlib.Core.Path.{◌≡◌, refl, sym, ap, ◌∙◌}
-use mathlib.Core.Logic.{inl, inr}
 use mathlib.Core.Bool.{Bool, true, false}
 use Prim.Native.Nat.{ℕ, zero, suc, ◌+◌, ◌-◌, ◌<◌}
 use native.Mathlib.Numerals.{sub-one}
 use native.Mathlib.Omega.{arith}
-use mathlib.Core.List.{List, [], ◌∷◌}
+use mathlib.Core.List.{List}
 use lib.ListN.{get_or, set}
 use denote.Enum.Declared.{tag_of}
 use Rattle.rules.specs.declared.Value.{Value}
@@ -44,7 +43,6 @@ use Rattle.evaluate.specs.declared.Answer.{Answer}
 use Rattle.evaluate.specs.declared.Answer.TheVariants as answers
 use Rattle.evaluate.specs.declared.Stop.TheVariants as stops
 use Rattle.evaluate.specs.Rows.{told, Asked, meant}
-use Rattle.execute.specs.contracts.Ran as ran
 use Rattle.execute.specs.declared.Ran.{Ran}
 use Rattle.execute.specs.declared.Ran.TheVariants.{Done, Fuel, Check}
 use Rattle.execute.specs.Commands.{ran_told, stopped_of, Commanded, meant_run, entered_run, storing_run, Entered, Storing}

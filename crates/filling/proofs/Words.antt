@@ -3,7 +3,6 @@ use mathlib.Core.Path.{◌≡◌, refl, ap, ◌∙◌}
 use mathlib.Core.Bool.{true}
 use Prim.Native.Nat.{ℕ, zero, suc, ◌+◌, ◌*◌, ◌-◌, ◌<◌, ◌≤◌}
 use native.Mathlib.Decide.{dec_le}
-use native.Mathlib.Numerals.{sub-one}
 use native.Mathlib.Omega.{arith}
 use mathlib.Core.List.{List}
 use lib.ListN.{get_or, length}
@@ -16,7 +15,7 @@ use Rattle.rules.specs.Reading.{expr_good, command_good}
 use Rattle.rules.specs.Shape.{home_at, type_of}
 use Rattle.rules.specs.declared.Kind.{Kind}
 use Rattle.rules.specs.declared.Kind.TheVariants.{int, SAFE, SEQ, DYNAMIC}
-use Rattle.rules.specs.Kinds.{kind_of, kind, Acceptable}
+use Rattle.rules.specs.Kinds.{kind, Acceptable}
 use Rattle.rules.specs.Tests.{parts_true, in_range_lem, false_true}
 use Rattle.laws.proofs.WellRead.{formed_known, formed_fine}
 use Rattle.laws.specs.Formed.{Formed, type_le}

@@ -9,7 +9,7 @@ use Rattle.rules.specs.Table.{Routine}
 use Rattle.rules.specs.Kinds.{kind, not_safe, converts, expr_need, command_need, Acceptable}
 use Rattle.rules.specs.Graph.{byte_of}
 use Rattle.laws.specs.Convert.{from_int, not_safe_byte}
-use Rattle.raise.specs.Marks.{at, zeros, Below, kept, Raised}
+use Rattle.raise.specs.Marks.{zeros, Below, kept, Raised}
 use Rattle.raise.specs.Demands.{Lists}
 use Rattle.gather.specs.Gathered.{Listed, NeedListed, Targets, Follows, Gathered}
 use Rattle.gather.specs.Notes.{Noted, listed_grows}

@@ -1,5 +1,5 @@
 -- A file that was read is well read, and a well-formed one stands for a well-formed routine.
-use Rattle.std.specs.Prelude.{◌≡◌, refl, ℕ, ◌+◌, ◌*◌, ◌≤◌, List}
+use Rattle.std.specs.Prelude.{◌≡◌, refl, ℕ, ◌+◌, ◌≤◌, List}
 use Rattle.std.proofs.Common.{arith}
 use Rattle.rules.specs.declared.Starts.{Starts}
 use Rattle.rules.specs.declared.Section.TheVariants.{Types}

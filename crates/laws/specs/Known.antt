@@ -4,7 +4,7 @@ use Rattle.std.proofs.Common.{zero-le, mul-suc, le_refl, arith, leb-true, eqb-tr
 use Rattle.std.proofs.Math.ListN.{get_or-eq_default}
 use Rattle.rules.specs.declared.Starts.{Starts}
 use Rattle.rules.specs.declared.Section.{Section}
-use Rattle.rules.specs.declared.Section.TheVariants.{Types, Values}
+use Rattle.rules.specs.declared.Section.TheVariants.{Values}
 use Rattle.rules.specs.Basic.{half, choose, in_range, Verdict, fine, refused, guard, unless_refused}
 use Rattle.rules.specs.Table.{Routine, layout, total, routine}
 use Rattle.rules.specs.Reading.{row_bytes, fewest, most, row_good, row_read, rows, section, cells, sections, fifth, reading, rises, rising}
@@ -12,7 +12,7 @@ use Rattle.rules.specs.Shape.{expr_shaped, command_shaped, value_shaped, shape}
 use Rattle.rules.specs.Calls.{formed}
 use Rattle.rules.specs.Tested.{refused_fine, passed, scan_fine, none_bad}
 use Rattle.rules.specs.Tests.{in_range_lem, fine_same}
-use Rattle.laws.specs.WellRead.{Whole, Placed, Fifth, absent, present, WellRead}
+use Rattle.laws.specs.WellRead.{Whole, Fifth, absent, present, WellRead}
 
 -- ---- refusals 1 to 3: a section
 

@@ -6,7 +6,7 @@ use native.Mathlib.Omega.{arith}
 use Rattle.rules.specs.declared.Starts.{Starts}
 use Rattle.rules.specs.Basic.{width, half, byte, in_range, fine, Bytes}
 use Rattle.rules.specs.Table.{Expr, Command, Routine, layout, operator_of, expr_of, expr_at, command_at, routine, literal, home, cast, null, sum, read, op, skip, then, store, if_else, while}
-use Rattle.rules.specs.Reading.{expr_good, command_good, expr_spare, command_spare, row_good, rows, cells}
+use Rattle.rules.specs.Reading.{expr_good, command_good, expr_spare, command_spare, row_good}
 use Rattle.rules.specs.Shape.{home_at}
 use Rattle.rules.specs.Kinds.{Acceptable}
 use Rattle.rules.specs.Valid.{Real}
@@ -14,8 +14,8 @@ use Rattle.rules.specs.Calls.{formed, judged}
 use Rattle.rules.specs.Tests.{fine_same, false_true, parts_true, by_test, in_range_lem, both_less}
 use Rattle.rules.specs.Tested.{kinds_acceptable, acceptable_kinds}
 use Rattle.laws.specs.WellRead.{WellRead}
-use Rattle.laws.specs.Known.{unrefused, values_good, formed_shaped}
-use Rattle.laws.specs.Formed.{Fits, CommandFits, ValueFits, Consecutive, last, behind, Formed}
+use Rattle.laws.specs.Known.{unrefused, values_good}
+use Rattle.laws.specs.Formed.{Fits, CommandFits, ValueFits, Consecutive, last, behind}
 
 -- ---- homes
 

@@ -1,7 +1,7 @@
 -- The numbers with which each call refuses: those that its tests name, and no other.
 use Rattle.std.specs.Prelude.{◌≡◌, refl, Bool, true, false, List, get_or, length, leb, eqb}
 use Rattle.std.proofs.Common.{inl, inr, arith}
-use Prim.Native.Nat.{ℕ, zero, suc, ◌+◌, ◌*◌}
+use Prim.Native.Nat.{ℕ, zero, suc, ◌+◌}
 use Rattle.rules.specs.declared.Starts.{Starts}
 use Rattle.rules.specs.declared.Section.{Section}
 use Rattle.rules.specs.declared.Section.TheVariants.{Types, Homes, Exprs, Commands, Values}

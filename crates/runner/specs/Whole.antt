@@ -1,14 +1,10 @@
 -- What the parts of a whole run are held to.
-use Rattle.std.specs.Prelude.{ℕ, ◌+◌, ◌-◌, ◌≤◌, ◌<◌, ◌*◌, List, ◌++◌, take, drop, replicate, ltb}
+use Rattle.std.specs.Prelude.{ℕ, ◌-◌, ◌≤◌, ◌<◌, ltb}
 use Rattle.rules.specs.declared.Starts.{Starts}
 use Rattle.rules.specs.declared.Outcome.TheVariants as outcome
 use Rattle.rules.specs.declared.Report.{Report}
 use Rattle.rules.specs.Basic.{choose}
 use Rattle.rules.specs.Table.{expr_place, command_place}
-use Rattle.rules.specs.Kinds.{kind}
-use Rattle.rules.specs.Memory.{encode}
-use Rattle.rules.specs.Start.{fresh_value}
-use Rattle.view.specs.Rows.{type_row}
 use Rattle.execute.specs.declared.Ran.{Ran}
 use Rattle.execute.specs.declared.Ran.TheVariants.{Done, Fuel, Check}
 

@@ -19,7 +19,7 @@ use Rattle.rules.specs.declared.Outcome.{Outcome}
 use Rattle.rules.specs.declared.Report.{Report}
 use Rattle.rules.specs.declared.RunAnswer.{RunAnswer}
 use Rattle.rules.specs.declared.RunAnswer.TheVariants as runs
-use Rattle.rules.specs.Basic.{Verdict, fine, refused}
+use Rattle.rules.specs.Basic.{Verdict}
 use Rattle.rules.specs.Calls.{read_says, check_says, infer_says, outcome_says, run_says, Inferred, Left, Ended}
 use Rattle.sledkindle.specs.declared.Answer.{Answer}
 use Rattle.sledkindle.specs.declared.Ran.{Ran}

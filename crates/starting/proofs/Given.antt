@@ -15,7 +15,7 @@ use Rattle.rules.specs.Table.{routine}
 use Rattle.rules.specs.Shape.{home_at}
 use Rattle.rules.specs.Kinds.{kind}
 use Rattle.rules.specs.Memory.{encode}
-use Rattle.rules.specs.Start.{given_value, start_address, given_in, given, start}
+use Rattle.rules.specs.Start.{given_value, start_address, given_in, given}
 use Rattle.rules.specs.Calls.{cell_count}
 use Rattle.laws.specs.WellRead.{WellRead}
 use Rattle.laws.specs.Formed.{Formed}

@@ -1,8 +1,7 @@
 -- A turn writes one more target, and a target is below its type.
 use mathlib.Core.Path.{◌≡◌, refl, sym, ap, ◌∙◌}
 use mathlib.Core.Logic.{◌⊎◌, inl, inr}
-use Prim.Native.Nat.{ℕ, zero, suc, ◌+◌, ◌*◌, ◌≤◌, ◌<◌}
-use native.Mathlib.Nat.{not-suc-le-zero}
+use Prim.Native.Nat.{ℕ, ◌+◌, ◌≤◌, ◌<◌}
 use native.Mathlib.Decide.{ℕ_discrete}
 use native.Mathlib.Omega.{arith}
 use mathlib.Core.List.{List}
@@ -10,7 +9,7 @@ use lib.ListN.{length, get_or, set, length-set}
 use lib.Seq.{get_or-set_same, get_or-set_other}
 use Rattle.rules.specs.declared.Starts.{Starts}
 use Rattle.rules.specs.Basic.{half}
-use Rattle.rules.specs.Table.{Routine, routine}
+use Rattle.rules.specs.Table.{Routine}
 use Rattle.laws.specs.WellRead.{WellRead}
 use Rattle.view.specs.declared.TypeRow.{TypeRow}
 use Rattle.view.specs.Rows.{type_row, TypeAsked}

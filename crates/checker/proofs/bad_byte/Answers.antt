@@ -1,7 +1,6 @@
-use Prim.Native.Nat.{◌≤◌, ◌-◌}
 use native.Mathlib.Omega.{arith}
-use borrow.Author.Tests.{le-leb, lt-leb}
-use Rattle.checker.specs.First.{Passed, passed_none, passed_more, found, found_none}
+use borrow.Author.Tests.{le-leb}
+use Rattle.checker.specs.First.{passed_none, passed_more, found_none}
 use Rattle.checker.proofs.bad_byte.Goals as goal
 
 pub loop-i-init : goal.loop-i-init

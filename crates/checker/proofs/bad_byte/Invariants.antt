@@ -2,7 +2,7 @@
 use Prim.Native.Nat.{◌≤◌, ◌-◌}
 use lib.ListN.{length, get_or}
 use lib.Dec.{leb}
-use Rattle.checker.specs.First.{Passed, passed_none, passed_more, found, found_none}
+use Rattle.checker.specs.First.{Passed}
 use Rattle.checker.proofs.bad_byte.Given as goal
 
 abbrev pub invariant-loop-i : goal.invariant-loop-i

@@ -1,7 +1,5 @@
-use Prim.Native.Nat.{◌≤◌, ◌-◌}
 use native.Mathlib.Omega.{arith}
-use borrow.Author.Tests.{not-true, not-false}
-use Rattle.checker.specs.First.{Passed, passed_none, passed_more, found, found_none}
+use Rattle.checker.specs.First.{passed_none, passed_more, found, found_none}
 use Rattle.checker.proofs.RowLaws.{command_asked, command_says}
 use Rattle.checker.proofs.bad_command.Goals as goal
 

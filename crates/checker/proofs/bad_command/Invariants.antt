@@ -3,7 +3,7 @@ use Prim.Native.Nat.{◌≤◌, ◌-◌}
 use Rattle.rules.specs.Table.{routine}
 use Rattle.rules.specs.Kinds.{command_kind}
 use Rattle.checker.specs.Judge.{MarkedFile}
-use Rattle.checker.specs.First.{Passed, passed_none, passed_more, found, found_none}
+use Rattle.checker.specs.First.{Passed}
 use Rattle.checker.proofs.bad_command.Given as goal
 
 abbrev pub invariant-loop-i : goal.invariant-loop-i

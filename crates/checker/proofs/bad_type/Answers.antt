@@ -1,7 +1,5 @@
-use Prim.Native.Nat.{suc, ◌≤◌, ◌-◌}
 use native.Mathlib.Omega.{arith}
-use borrow.Author.Tests.{not-true, not-false}
-use Rattle.checker.specs.First.{Passed, passed_none, passed_more, found, found_none}
+use Rattle.checker.specs.First.{passed_none, passed_more, found, found_none}
 use Rattle.checker.proofs.RowLaws.{one_of, type_says}
 use Rattle.checker.proofs.bad_type.Goals as goal
 

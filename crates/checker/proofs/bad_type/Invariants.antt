@@ -2,7 +2,7 @@
 use Prim.Native.Nat.{suc, ◌≤◌, ◌-◌}
 use Rattle.rules.specs.Kinds.{type_kind}
 use Rattle.checker.specs.Tables.{AllTypes}
-use Rattle.checker.specs.First.{Passed, passed_none, passed_more, found, found_none}
+use Rattle.checker.specs.First.{Passed}
 use Rattle.checker.proofs.bad_type.Given as goal
 
 abbrev pub invariant-loop-i : goal.invariant-loop-i

@@ -1,6 +1,5 @@
 -- A refusal of the file comes first; a well-formed file and its types are judged.
 use borrow.Author.Rules.{rules}
-use native.Mathlib.Omega.{arith}
 use Rattle.std.proofs.Common.{ap}
 use denote.Enum.Declared.{tag_of}
 use Rattle.rules.specs.contracts.ReadAnswer as answers

@@ -1,5 +1,4 @@
 -- The kinds decide, or the targets do: the two clauses of conversion.
-use borrow.Author.Tests.{not-true, not-false}
 use Rattle.checker.proofs.KindLaws.{both_small, kinds_refuse, kinds_suffice, converted_targets, targets_decide}
 use Rattle.checker.proofs.converts.Goals as goal
 

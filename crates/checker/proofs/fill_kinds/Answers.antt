@@ -1,5 +1,4 @@
 use mathlib.Core.Path.{refl}
-use Prim.Native.Nat.{◌≤◌, ◌-◌}
 use native.Mathlib.Omega.{arith}
 use Rattle.checker.proofs.RowLaws.{kinds_none, kinds_more, kinds_all}
 use Rattle.checker.proofs.fill_kinds.Goals as goal

@@ -1,5 +1,5 @@
 -- Each need is a clause of the definition.
-use Rattle.checker.proofs.RowLaws.{nothing_decides, moving_decides, converting_two, converting_decides}
+use Rattle.checker.proofs.RowLaws.{moving_decides, converting_two, converting_decides}
 use Rattle.checker.proofs.met.Goals as goal
 
 pub converts-requires : goal.converts-requires

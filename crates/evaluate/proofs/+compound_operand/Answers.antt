@@ -1,11 +1,9 @@
 use mathlib.Core.Path.{refl}
 use native.Mathlib.Omega.{arith}
-use borrow.Author.Rules.{rules}
 use Rattle.std.proofs.Common.{ap}
 use denote.Enum.Declared.{tag_of}
 use Rattle.evaluate.specs.contracts.Answer as answer
 use Rattle.evaluate.proofs.Rows.{earlier, few, no_fuel_lem, a_leaf, has_operands, a_compound, first_before, second_before, first_stops, one_ready, a_one, second_stops, a_two}
-use Prim.Native.Nat.{ℕ, ◌+◌, ◌*◌, ◌<◌}
 use Rattle.evaluate.proofs.+compound_operand.Goals as goal
 
 pub compound-operand-first-requires : goal.compound-operand-first-requires

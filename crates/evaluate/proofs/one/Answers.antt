@@ -1,6 +1,6 @@
 -- By the operation: each is one rule for values.
 use native.Mathlib.Omega.{arith}
-use Rattle.evaluate.proofs.Answers.{access_inside, eight, one_int, one_pair, one_safe, one_read_safe, one_read_seq, one_read_dynamic, one_read_int}
+use Rattle.evaluate.proofs.Answers.{access_inside, one_int, one_pair, one_safe, one_read_safe, one_read_seq, one_read_dynamic, one_read_int}
 use Rattle.evaluate.proofs.one.Goals as goal
 
 pub load-requires : goal.load-requires

@@ -1,14 +1,10 @@
-use Prim.Native.Nat.{ℕ, ◌+◌, ◌*◌, ◌<◌}
 use mathlib.Core.Path.{refl, ap}
-use lib.ListN.{length}
 use borrow.Author.Rules.{rules}
 use native.Mathlib.Omega.{arith}
-use Rattle.execute.specs.Commands.{Commanded}
 use denote.Enum.Declared.{tag_of}
 use Rattle.evaluate.specs.contracts.Answer as answer
-use Rattle.execute.specs.contracts.Ran as ran
 use Rattle.execute.proofs.Rows as rows
-use Rattle.execute.proofs.Loop.{Turned, turned_start, test_asked, loop_stops, loop_ends, body_before, body_asked, loop_breaks, loop_dry, loop_less, loop_again}
+use Rattle.execute.proofs.Loop.{turned_start, test_asked, loop_stops, loop_ends, body_before, body_asked, loop_breaks, loop_dry, loop_less, loop_again}
 use Rattle.execute.proofs.+choose_exec_repeat_then.Goals as goal
 
 pub choose-eval-test-requires : goal.choose-eval-test-requires

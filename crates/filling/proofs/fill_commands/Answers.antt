@@ -1,6 +1,5 @@
-use Prim.Native.Nat.{◌-◌, ◌≤◌}
-use mathlib.Core.Path.{◌≡◌, refl}
-use lib.ListN.{length, length-set}
+use mathlib.Core.Path.{refl}
+use lib.ListN.{length-set}
 use borrow.Author.Rules.{rules}
 use native.Mathlib.Omega.{arith}
 use Rattle.filling.proofs.Words.{known}

@@ -1,7 +1,7 @@
 -- Row by row.
 use Prim.Native.Nat.{◌-◌, ◌≤◌}
-use mathlib.Core.Path.{◌≡◌, refl}
-use lib.ListN.{length, length-set}
+use mathlib.Core.Path.{◌≡◌}
+use lib.ListN.{length}
 use Rattle.filling.specs.Filling.{ExprsDone}
 use Rattle.filling.proofs.fill_exprs.Given as goal
 

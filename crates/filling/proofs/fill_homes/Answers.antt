@@ -1,7 +1,6 @@
-use Prim.Native.Nat.{◌-◌}
 use borrow.Author.Rules.{rules}
 use native.Mathlib.Omega.{arith}
-use Rattle.filling.proofs.Table.{HomesTo, homes_first, homes_more, homes_all}
+use Rattle.filling.proofs.Table.{homes_first, homes_more, homes_all}
 use Rattle.filling.proofs.fill_homes.Goals as goal
 
 pub loop-i-init : goal.loop-i-init

@@ -1,6 +1,6 @@
 -- Homes are laid one after the other, so the next one starts where the last one ends.
 use Prim.Native.Nat.{◌-◌}
-use Rattle.filling.proofs.Table.{HomesTo, homes_first, homes_more, homes_all}
+use Rattle.filling.proofs.Table.{HomesTo}
 use Rattle.filling.proofs.fill_homes.Given as goal
 
 abbrev pub invariant-loop-i : goal.invariant-loop-i

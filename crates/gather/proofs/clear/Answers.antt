@@ -1,7 +1,6 @@
-use Prim.Native.Nat.{◌≤◌, ◌-◌}
-use mathlib.Core.Path.{◌≡◌, refl, ◌∙◌}
+use mathlib.Core.Path.{refl, ◌∙◌}
 use native.Mathlib.Omega.{arith}
-use lib.ListN.{length, length-set, drop, replicate}
+use lib.ListN.{length-set}
 use Rattle.gather.specs.Tables.{cleared_more, cleared_end}
 use Rattle.gather.proofs.clear.Goals as goal
 

@@ -1,8 +1,8 @@
 -- `gather::clear` meets its contract. The loop's invariant: the first i entries are 0, the others as lent. Its measure is what is left.
 use Prim.Native.Nat.{◌≤◌, ◌-◌}
-use mathlib.Core.Path.{◌≡◌, refl, ◌∙◌}
+use mathlib.Core.Path.{◌≡◌}
 use mathlib.Core.List.{◌++◌}
-use lib.ListN.{length, length-set, drop, replicate}
+use lib.ListN.{length, drop, replicate}
 use Rattle.gather.proofs.clear.Given as goal
 
 abbrev pub invariant-loop-i : goal.invariant-loop-i

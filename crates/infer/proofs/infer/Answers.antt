@@ -1,6 +1,5 @@
 -- `infer::infer` meets its contract, a law for each way out: refused with the file, too little lent, marked. Nothing is written before the last.
 use borrow.Author.Rules.{rules}
-use native.Mathlib.Omega.{arith}
 use Rattle.gather.specs.Told.{told_typed}
 use Rattle.infer.specs.Answers.{file_refused, part_size, part_types, marking_short, marking_filled}
 use Rattle.infer.proofs.infer.Goals as goal

@@ -1,5 +1,4 @@
-use Prim.Native.Nat.{◌≤◌, ◌-◌}
-use mathlib.Core.Path.{◌≡◌, refl, ◌∙◌}
+use mathlib.Core.Path.{refl, ◌∙◌}
 use native.Mathlib.Omega.{arith}
 use Rattle.links.specs.Linking.{joined_none, joined_more, joined_end, joined_tables, next_refs}
 use Rattle.links.proofs.join.Goals as goal

@@ -1,6 +1,6 @@
 -- `links::join` meets its contract. The loop's invariant: the conversions before i are linked. Its measure is what is left of the list.
 use Prim.Native.Nat.{◌≤◌, ◌-◌}
-use mathlib.Core.Path.{◌≡◌, refl, ◌∙◌}
+use mathlib.Core.Path.{◌≡◌}
 use lib.ListN.{length}
 use Rattle.links.specs.Links.{Joined}
 use Rattle.links.proofs.join.Given as goal

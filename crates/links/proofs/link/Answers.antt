@@ -1,6 +1,6 @@
 use mathlib.Core.Path.{refl}
 use native.Mathlib.Omega.{arith}
-use Rattle.links.specs.Linking.{Linking, linking_more, linking_swap, linked_none, linked_then, linked_end, linking_tables}
+use Rattle.links.specs.Linking.{linking_more, linking_swap, linked_none, linked_then, linked_end, linking_tables}
 use Rattle.links.proofs.link.Goals as goal
 
 pub loop-a-init : goal.loop-a-init

@@ -1,6 +1,6 @@
 -- `links::link` meets its contract. The loop's invariant: the links so far, with (a, b) left to link. Its measure is the greater of the two, which falls.
 use Prim.Native.Nat.{max}
-use Rattle.links.specs.Linking.{Linking, linking_more, linking_swap, linked_none, linked_then, linked_end, linking_tables}
+use Rattle.links.specs.Linking.{Linking}
 use Rattle.links.proofs.link.Given as goal
 
 abbrev pub invariant-loop-a : goal.invariant-loop-a

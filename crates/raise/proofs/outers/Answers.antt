@@ -1,6 +1,5 @@
-use Prim.Native.Nat.{◌≤◌, ◌-◌}
 use native.Mathlib.Omega.{arith}
-use Rattle.raise.specs.Moves.{Moves, Before, outers_none, outers_more, outers_end}
+use Rattle.raise.specs.Moves.{outers_none, outers_more, outers_end}
 use Rattle.raise.proofs.outers.Goals as goal
 
 pub loop-i-init : goal.loop-i-init

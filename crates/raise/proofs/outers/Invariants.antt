@@ -2,7 +2,7 @@
 use Prim.Native.Nat.{◌≤◌, ◌-◌}
 use lib.ListN.{length}
 use Rattle.raise.specs.Demands.{Outers}
-use Rattle.raise.specs.Moves.{Moves, Before, outers_none, outers_more, outers_end}
+use Rattle.raise.specs.Moves.{Moves, Before}
 use Rattle.raise.proofs.outers.Given as goal
 
 abbrev pub invariant-loop-i : goal.invariant-loop-i

@@ -1,7 +1,7 @@
 use mathlib.Core.Path.{◌∙◌}
 use native.Mathlib.Omega.{arith}
-use Rattle.raise.specs.Demands.{Rows, tables_size}
-use Rattle.raise.specs.Moves.{Moves, Above, rows_none, rows_more, rows_end}
+use Rattle.raise.specs.Demands.{tables_size}
+use Rattle.raise.specs.Moves.{rows_none, rows_more, rows_end}
 use Rattle.raise.proofs.rows.Goals as goal
 
 pub loop-i-init : goal.loop-i-init

@@ -1,8 +1,8 @@
 -- `raise::rows` meets its contract. The loop's invariant: the types above i have passed. Its measure is i.
 use Prim.Native.Nat.{◌≤◌}
 use lib.ListN.{length}
-use Rattle.raise.specs.Demands.{Rows, tables_size}
-use Rattle.raise.specs.Moves.{Moves, Above, rows_none, rows_more, rows_end}
+use Rattle.raise.specs.Demands.{Rows}
+use Rattle.raise.specs.Moves.{Moves, Above}
 use Rattle.raise.proofs.rows.Given as goal
 
 abbrev pub invariant-loop-i : goal.invariant-loop-i

@@ -1,7 +1,7 @@
 -- `raise::settle` meets its contract. The loop's invariant: what rose so far, every marking that meets the demands follows. Its measure is how far kinds
 -- can still rise, which a pass that moved anything lowers; after one that moved nothing all demands are met.
 use lib.ListN.{length}
-use Rattle.raise.specs.Moves.{room, Raises, raises_none, raises_more, raises_rests, room_falls}
+use Rattle.raise.specs.Moves.{room, Raises}
 use Rattle.raise.proofs.settle.Given as goal
 
 abbrev pub invariant-loop-moved : goal.invariant-loop-moved

@@ -1,7 +1,6 @@
-use Prim.Native.Nat.{◌-◌}
 use borrow.Author.Rules.{rules}
 use native.Mathlib.Omega.{arith}
-use Rattle.runner.proofs.Calls.{Counted, counted_first, counted_all, counted_next}
+use Rattle.runner.proofs.Calls.{counted_first, counted_all, counted_next}
 use Rattle.runner.proofs.count.Goals as goal
 
 pub loop-g-init : goal.loop-g-init

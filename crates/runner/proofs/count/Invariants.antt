@@ -1,6 +1,6 @@
 -- Home by home.
 use Prim.Native.Nat.{◌-◌}
-use Rattle.runner.proofs.Calls.{Counted, counted_first, counted_all, counted_next}
+use Rattle.runner.proofs.Calls.{Counted}
 use Rattle.runner.proofs.count.Given as goal
 
 abbrev pub invariant-loop-g : goal.invariant-loop-g

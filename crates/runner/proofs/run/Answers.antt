@@ -1,6 +1,5 @@
 -- What the checker refuses is refused; what it accepts is run.
 use borrow.Author.Rules.{rules}
-use native.Mathlib.Omega.{arith}
 use Rattle.runner.proofs.Calls.{run_refused, accept}
 use Rattle.runner.proofs.run.Goals as goal
 

@@ -1,7 +1,6 @@
-use Prim.Native.Nat.{◌-◌}
 use native.Mathlib.Omega.{arith}
 use Rattle.filling.proofs.Words.{known}
-use Rattle.starting.proofs.Cells.{Begun, begun_first, begun_all, begun_room, begun_next, home_type}
+use Rattle.starting.proofs.Cells.{begun_first, begun_all, begun_room, begun_next, home_type}
 use Rattle.starting.proofs.clear.Goals as goal
 
 pub loop-g-init : goal.loop-g-init

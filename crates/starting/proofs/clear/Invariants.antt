@@ -1,6 +1,6 @@
 -- Home by home; homes lie one after the other, and so do their cells.
 use Prim.Native.Nat.{◌-◌}
-use Rattle.starting.proofs.Cells.{Begun, begun_first, begun_all, begun_room, begun_next, home_type}
+use Rattle.starting.proofs.Cells.{Begun}
 use Rattle.starting.proofs.clear.Given as goal
 
 abbrev pub invariant-loop-g : goal.invariant-loop-g

@@ -1,6 +1,5 @@
-use Prim.Native.Nat.{◌-◌}
 use native.Mathlib.Omega.{arith}
-use Rattle.starting.proofs.Given.{GivenSoFar, given_none, given_near, given_room, given_next, given_all}
+use Rattle.starting.proofs.Given.{given_none, given_near, given_room, given_next, given_all}
 use Rattle.filling.proofs.Words.{known, well}
 use Rattle.starting.proofs.give.Goals as goal
 

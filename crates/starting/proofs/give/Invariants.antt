@@ -1,6 +1,6 @@
 -- `give` meets its contract: at the loop's head the values of earlier rows are written over what stood there. Assumes nothing.
 use Prim.Native.Nat.{◌-◌}
-use Rattle.starting.proofs.Given.{GivenSoFar, given_none, given_near, given_room, given_next, given_all}
+use Rattle.starting.proofs.Given.{GivenSoFar}
 use Rattle.starting.proofs.give.Given as goal
 
 abbrev pub invariant-loop-i : goal.invariant-loop-i

@@ -1,7 +1,7 @@
 -- Entry by entry.
 use Prim.Native.Nat.{◌-◌, ◌≤◌}
-use mathlib.Core.Path.{◌≡◌, refl}
-use lib.ListN.{length, length-set}
+use mathlib.Core.Path.{◌≡◌}
+use lib.ListN.{length}
 use Rattle.starting.specs.Starting.{spread}
 use Rattle.starting.proofs.write.Given as goal
 

@@ -1,5 +1,5 @@
 -- A turn writes one more target.
-use mathlib.Core.Path.{◌≡◌, ap, ◌∙◌}
+use mathlib.Core.Path.{◌≡◌}
 use Prim.Native.Nat.{ℕ, ◌+◌, ◌≤◌, ◌-◌}
 use Rattle.rules.specs.Table.{routine}
 use Rattle.targets.specs.Filled.{TargetTable}

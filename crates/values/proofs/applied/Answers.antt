@@ -1,7 +1,7 @@
 -- By the operator's number.
 use Rattle.values.specs.declared.Found.TheVariants.{Is}
 use Rattle.std.proofs.Common.{refl, ap, rules}
-use Rattle.values.proofs.Laws.{at_operator, at_right, minus_is}
+use Rattle.values.proofs.Laws.{at_operator, minus_is}
 use Rattle.values.proofs.applied.Goals as goal
 
 pub returns-in-0 : goal.returns-in-0

@@ -1,5 +1,5 @@
 -- The high half tells a number from a pair.
-use Rattle.std.proofs.Common.{◌/◌, ap, ◌∙◌, rules}
+use Rattle.std.proofs.Common.{◌/◌, ap, ◌∙◌}
 use Rattle.rules.specs.Memory.{halves}
 use Rattle.values.proofs.Laws.{halves_number, halves_pair}
 use Rattle.values.proofs.decode.Goals as goal

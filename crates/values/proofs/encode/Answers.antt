@@ -1,5 +1,5 @@
 -- An entry is the number, or the offset with the home above it.
-use Rattle.std.proofs.Common.{arith, rules}
+use Rattle.std.proofs.Common.{arith}
 use Rattle.values.proofs.Laws.{named_pair, encode_pair}
 use Rattle.values.proofs.encode.Goals as goal
 

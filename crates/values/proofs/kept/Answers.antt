@@ -1,5 +1,5 @@
 -- By the number of what is kept.
-use Rattle.values.proofs.Laws.{named_as, pair_named, kept_int, kept_pair, kept_safe, kept_else}
+use Rattle.values.proofs.Laws.{named_as, pair_named, kept_int, kept_pair, kept_safe}
 use Rattle.values.proofs.kept.Goals as goal
 
 pub encode-requires : goal.encode-requires

@@ -1,5 +1,5 @@
 -- By the access's number.
-use Rattle.values.proofs.Laws.{reach_at, reach_else}
+use Rattle.values.proofs.Laws.{reach_at}
 use Rattle.values.proofs.reach.Goals as goal
 
 pub returns-in-1 : goal.returns-in-1

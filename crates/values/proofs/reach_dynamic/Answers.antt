@@ -1,5 +1,5 @@
 -- Home 0 is check 3 before the offset is looked at; past it, as in a conversion to SAFE.
-use Rattle.values.proofs.Laws.{tag_number, named_pair, dynamic_number, dynamic_null, dynamic_in, dynamic_out}
+use Rattle.values.proofs.Laws.{named_pair, dynamic_number, dynamic_null, dynamic_in, dynamic_out}
 use Rattle.values.proofs.reach_dynamic.Goals as goal
 
 pub returns-then-g-eq0 : goal.returns-then-g-eq0

@@ -1,5 +1,4 @@
-use Rattle.reader.proofs.Sections.{CellsSoFar, cells_start, home_over, home_fits, no_homes}
-use Prim.Native.Nat.{◌-◌}
+use Rattle.reader.proofs.Sections.{cells_start, home_over, home_fits, no_homes}
 use native.Mathlib.Omega.{arith}
 use Rattle.reader.proofs.front.cells.Goals as goal
 

@@ -1,5 +1,5 @@
 -- `front::cells` meets its contract. At the loop's head the rest of the homes is summed as all of them are; a home passes the limit, or is taken off the front. Assumes nothing.
-use Rattle.reader.proofs.Sections.{CellsSoFar, cells_start, home_over, home_fits, no_homes}
+use Rattle.reader.proofs.Sections.{CellsSoFar}
 use Prim.Native.Nat.{◌-◌}
 use Rattle.reader.proofs.front.cells.Given as goal
 

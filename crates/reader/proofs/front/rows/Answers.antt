@@ -1,7 +1,5 @@
-use Rattle.reader.proofs.Sections.{RowsSoFar, rows_start, row_short, row_bad, row_passed, rows_passed}
-use borrow.Author.Tests.{not-true, not-false}
+use Rattle.reader.proofs.Sections.{rows_start, row_short, row_bad, row_passed, rows_passed}
 use mathlib.Core.Path.{sym, ◌∙◌}
-use Prim.Native.Nat.{◌-◌}
 use Rattle.reader.proofs.front.rows.Goals as goal
 
 pub loop-i-init : goal.loop-i-init

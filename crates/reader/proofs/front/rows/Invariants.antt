@@ -1,5 +1,5 @@
 -- `front::rows` meets its contract. At the loop's head the rest of the rows is judged as all of them are; a row is refused, or taken off the front. Assumes nothing.
-use Rattle.reader.proofs.Sections.{RowsSoFar, rows_start, row_short, row_bad, row_passed, rows_passed}
+use Rattle.reader.proofs.Sections.{RowsSoFar}
 use Prim.Native.Nat.{◌-◌}
 use Rattle.reader.proofs.front.rows.Given as goal
 

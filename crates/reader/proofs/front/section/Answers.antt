@@ -1,6 +1,5 @@
 -- `front::section` meets its contract: the count is missing, out of its limits, or followed by its rows. Assumes nothing.
 use Rattle.reader.proofs.Sections.{section_short, section_count, few_rows, section_rows}
-use borrow.Author.Tests.{not-true, not-false}
 use native.Mathlib.Omega.{arith}
 use Rattle.reader.proofs.front.section.Goals as goal
 

@@ -1,6 +1,6 @@
 -- `range::command_fields` meets its contract: at each tag that it tells apart the definition's test computes, and no other tag gives a row. Assumes nothing.
 use lib.Dec.{eqb, ltb}
-use Rattle.reader.proofs.InRange.{both_as, command_tag, command_skip, command_rest}
+use Rattle.reader.proofs.InRange.{both_as, command_tag, command_skip}
 use Rattle.reader.proofs.range.command_fields.Goals as goal
 
 pub returns-in-0 : goal.returns-in-0

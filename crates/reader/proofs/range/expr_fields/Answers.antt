@@ -1,8 +1,8 @@
 -- `range::expr_fields` meets its contract: at each tag that it tells apart the definition's test computes, and the other tags are an operator's or none. Assumes nothing.
 use lib.Dec.{eqb}
-use Rattle.reader.proofs.InRange.{both_as, both_both, expr_tag, expr_rest}
+use Rattle.reader.proofs.InRange.{both_as, expr_tag}
 use mathlib.Core.Bool.{true}
-use mathlib.Core.Path.{refl, ◌∙◌}
+use mathlib.Core.Path.{refl}
 use Rattle.reader.proofs.range.expr_fields.Goals as goal
 
 pub returns-in-0 : goal.returns-in-0

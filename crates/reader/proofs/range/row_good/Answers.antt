@@ -1,5 +1,5 @@
 -- `range::row_good` meets its contract: each arm judges the row as its section does. Assumes nothing.
-use Rattle.reader.proofs.InRange.{row_of, room, types_of_tag, homes_seen}
+use Rattle.reader.proofs.InRange.{row_of, room, homes_seen}
 use Rattle.reader.proofs.range.row_good.Goals as goal
 
 pub home_good-requires : goal.home_good-requires

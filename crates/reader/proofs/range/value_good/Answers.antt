@@ -1,6 +1,5 @@
 -- `range::value_good` meets its contract: the home is none of the file's, or the cell is held to the size in its row. Assumes nothing.
 use native.Mathlib.Omega.{arith}
-use borrow.Author.Tests.{not-true, not-false}
 use Rattle.reader.proofs.InRange.{value_no_home, home_there, start_row_lem}
 use Rattle.reader.proofs.range.value_good.Goals as goal
 

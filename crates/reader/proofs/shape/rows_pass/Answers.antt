@@ -1,8 +1,6 @@
 use native.Mathlib.Omega.{arith}
-use Prim.Native.Nat.{◌-◌}
 use mathlib.Core.Path.{sym, ◌∙◌}
-use borrow.Author.Tests.{not-true, not-false}
-use Rattle.reader.proofs.Shapes.{TestedSoFar, tested_start, few_rows, places, row_fails, row_passed, all_passed}
+use Rattle.reader.proofs.Shapes.{tested_start, few_rows, places, row_fails, row_passed, all_passed}
 use Rattle.reader.proofs.shape.rows_pass.Goals as goal
 
 pub count_of-n-requires : goal.count_of-n-requires

@@ -1,6 +1,6 @@
 -- `shape::rows_pass` meets its contract. At the loop's head the rest of the rows is judged as all of them are; a row is refused, or taken off the front. Assumes nothing.
 use Prim.Native.Nat.{◌-◌}
-use Rattle.reader.proofs.Shapes.{TestedSoFar, tested_start, few_rows, places, row_fails, row_passed, all_passed}
+use Rattle.reader.proofs.Shapes.{TestedSoFar}
 use Rattle.reader.proofs.shape.rows_pass.Given as goal
 
 abbrev pub invariant-loop-i : goal.invariant-loop-i

@@ -1,7 +1,6 @@
-use Rattle.reader.proofs.Shapes.{TableSoFar, table_start, table_next, table_full}
+use Rattle.reader.proofs.Shapes.{table_start, table_next, table_full}
 use Rattle.view.specs.declared.Counts.{Counts}
 use mathlib.Core.Path.{ap}
-use Prim.Native.Nat.{◌-◌}
 use native.Mathlib.Omega.{arith}
 use Rattle.reader.proofs.shape.type_table.Goals as goal
 

@@ -1,5 +1,5 @@
 -- `shape::type_table` meets its contract. At the loop's head the entries below the row are types, and the others as they were. Assumes nothing.
-use Rattle.reader.proofs.Shapes.{TableSoFar, table_start, table_next, table_full}
+use Rattle.reader.proofs.Shapes.{TableSoFar}
 use Prim.Native.Nat.{◌-◌}
 use Rattle.reader.proofs.shape.type_table.Given as goal
 
