@@ -26,13 +26,17 @@ fn print_kinds(rt: &HostRuntime, marking: &[u8]) -> io::Result<()> {
     Ok(())
 }
 
-fn print_report(rt: &HostRuntime, r: Report) -> io::Result<()> {
-    let units = r.units;
-    match r.outcome {
-        Outcome::Done => println!(rt; "done 0 {units}"),
-        Outcome::Fuel(place) => println!(rt; "fuel {place} {units}"),
-        Outcome::Check(number, place) => println!(rt; "check-{number} {place} {units}"),
+fn print_outcome(rt: &HostRuntime, outcome: Outcome) -> io::Result<()> {
+    match outcome {
+        Outcome::Done => print!(rt; "done 0"),
+        Outcome::Fuel(place) => print!(rt; "fuel {place}"),
+        Outcome::Check(number, place) => print!(rt; "check-{number} {place}"),
     }
+}
+
+fn print_report(rt: &HostRuntime, r: Report) -> io::Result<()> {
+    print_outcome(rt, r.outcome)?;
+    println!(rt; " {}", r.units)
 }
 
 fn print_refusal(rt: &HostRuntime, r: Refusal) -> io::Result<()> {
