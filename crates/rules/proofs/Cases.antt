@@ -1,7 +1,4 @@
 -- The cases of RULES 7 as one table, under one theorem: `cases_hold`. It guards every edit of a rule.
-pub mod Files
-pub mod Least
-pub mod Rows
 pub mod Scope
 pub mod Reading
 pub mod Kinds
@@ -13,7 +10,8 @@ use Rattle.rules.proofs.Cases.Reading.{start_rows, counts, sizes, expr_rows, com
 use Rattle.rules.proofs.Cases.Kinds.{lengths, conversions, targets, others, firsts, lending, least}
 use Rattle.rules.proofs.Cases.Values.{operators, converted, accesses, stuck_forms}
 use Rattle.rules.proofs.Cases.Running.{stores, fresh, flow, stuck_runs, in_order, answers}
-use Rattle.rules.proofs.Cases.Rows.{Case, Holds, Row}
+use Rattle.rules.specs.Cases.{Each, none, more}
+use Rattle.rules.specs.Cases.Rows.{Case, Holds, Row}
 
 abbrev pub table : List Row
 table =
@@ -25,10 +23,6 @@ table =
 
 abbrev pub cases : List Case
 cases = map (λ (x : Row). x.case) table
-
-pub data Each {A : Type 0} (P : A → Type 0) : List A → Type 0 where
-  none : Each P []
-  more : {x : A} {xs : List A} → P x → Each P xs → Each P (x ∷ xs)
 
 each_row : (l : List Row) → Each Holds (map (λ (x : Row). x.case) l)
 each_row [] = none

@@ -19,3 +19,4 @@ pub mod Made
 pub mod Calls
 pub mod Tests
 pub mod Tested
+pub mod Cases

@@ -6,8 +6,8 @@ use Rattle.rules.specs.Shape.{type_of, shape}
 use Rattle.rules.specs.Kinds.{same, converts, kinds}
 use Rattle.rules.specs.Run.{and_then, ruled, enter, afterwards}
 use Rattle.rules.specs.Calls.{formed, judged, checking, inferable, runnable, running}
-use Rattle.rules.proofs.Cases.Files.{type_row, literal, home, cast, null, sum, skip, store, file, case1, case4, case11, unused, operand, idle, int_cast, pair_cast, uneven_cast, mixed_cast, unlike_cast, recast, deep_cast, nested, nested_types}
-use Rattle.rules.proofs.Cases.Rows.{plenty, ends, accepted, rejected, inferred_in, inferred, not_inferred, ran_in, Row}
+use Rattle.rules.specs.Cases.Files.{type_row, literal, home, cast, null, sum, skip, store, file, case1, case4, case11, unused, operand, idle, int_cast, pair_cast, uneven_cast, mixed_cast, unlike_cast, recast, deep_cast, nested, nested_types}
+use Rattle.rules.specs.Cases.Rows.{plenty, ends, accepted, rejected, inferred_in, inferred, not_inferred, ran_in, Row}
 
 -- The marking: its length and its bytes (7), after 6 and before 8.
 abbrev pub lengths : List Row

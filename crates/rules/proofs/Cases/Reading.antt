@@ -5,8 +5,8 @@ use Rattle.rules.specs.Shape.{type_of, shape}
 use Rattle.rules.specs.Kinds.{same, converts, kinds}
 use Rattle.rules.specs.Run.{and_then, ruled, enter, afterwards}
 use Rattle.rules.specs.Calls.{formed, judged, checking, inferable, runnable, running}
-use Rattle.rules.proofs.Cases.Files.{half, type_row, home_row, expr, literal, home, cast, null, sum, read, command, skip, store, start_row, if_row, sect, file, one_type, tray, disc, flagged, crowded, third, second, operand, ints, nested}
-use Rattle.rules.proofs.Cases.Rows.{three, nil, ends, starves, formed_at, malformed, accepted, inferred, ran_on, ran, Row}
+use Rattle.rules.specs.Cases.Files.{half, type_row, home_row, expr, literal, home, cast, null, sum, read, command, skip, store, start_row, if_row, sect, file, one_type, tray, disc, flagged, crowded, third, second, operand, ints, nested}
+use Rattle.rules.specs.Cases.Rows.{three, nil, ends, starves, formed_at, malformed, accepted, inferred, ran_on, ran, Row}
 
 -- Start values (RULES 1.10, 5.11).
 abbrev pub start_rows : List Row

@@ -14,8 +14,8 @@ use Rattle.rules.specs.declared.CheckAnswer.TheVariants as checks
 use Rattle.rules.specs.declared.InferAnswer.TheVariants as infers
 use Rattle.rules.specs.declared.Outcome.TheVariants.{Done, Fuel, Check}
 use Rattle.rules.specs.declared.RunAnswer.TheVariants as runs
-use Rattle.rules.proofs.Cases.Files.{literal, home, cast, null, read, command, skip, store, if_row, one_type, two_types, case1, counting, self_store, nested, nested_types, pointed, followed, narrowed, branches, two_stops}
-use Rattle.rules.proofs.Cases.Rows.{three, zeros, nil, ends, starves, fails, inferred, ran_on, ran, told, stuck_in, failing, read_said, check_said, infer_said, run_said, Row}
+use Rattle.rules.specs.Cases.Files.{literal, home, cast, null, read, command, skip, store, if_row, one_type, two_types, case1, counting, self_store, nested, nested_types, pointed, followed, narrowed, branches, two_stops}
+use Rattle.rules.specs.Cases.Rows.{three, zeros, nil, ends, starves, fails, inferred, ran_on, ran, told, stuck_in, failing, read_said, check_said, infer_said, run_said, Row}
 
 -- Stored values: converted to the target type, and in a DYNAMIC int cell a pair of home 0 (RULES 5.8, 5.10).
 abbrev pub stores : List Row

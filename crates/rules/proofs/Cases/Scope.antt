@@ -7,8 +7,8 @@ use Rattle.rules.specs.Shape.{type_of, shape}
 use Rattle.rules.specs.Kinds.{same, converts, kinds}
 use Rattle.rules.specs.Run.{and_then, ruled, enter, afterwards}
 use Rattle.rules.specs.Calls.{formed, judged, inferable, runnable, running}
-use Rattle.rules.proofs.Cases.Files.{case1, case2, case4, case5, case6, case7, case8, case9, case11, case12, counting}
-use Rattle.rules.proofs.Cases.Rows.{lent, three, zeros, nil, ends, starves, fails, inferred, ran_on, ran, valued, Row}
+use Rattle.rules.specs.Cases.Files.{case1, case2, case4, case5, case6, case7, case8, case9, case11, case12, counting}
+use Rattle.rules.specs.Cases.Rows.{lent, three, zeros, nil, ends, starves, fails, inferred, ran_on, ran, valued, Row}
 
 -- The twelve cases of the scope, with their inferred markings, and a while.
 abbrev pub scope : List Row

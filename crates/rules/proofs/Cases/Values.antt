@@ -7,8 +7,8 @@ use Rattle.rules.specs.Kinds.{same, converts, kinds}
 use Rattle.rules.specs.Ruled.{check1, check2, check3, check4}
 use Rattle.rules.specs.Run.{and_then, ruled, enter, afterwards}
 use Rattle.rules.specs.Calls.{formed, judged, runnable, running}
-use Rattle.rules.proofs.Cases.Files.{type_row, home_row, literal, home, cast, null, sum, read, skip, store, file, one_type, two_types, case2, unused, operand, calculation, int_cast, stocked, nested, misread}
-use Rattle.rules.proofs.Cases.Rows.{three, zeros, nil, nils, ends, fails, ran, valued, failing, stuck_on, Row}
+use Rattle.rules.specs.Cases.Files.{type_row, home_row, literal, home, cast, null, sum, read, skip, store, file, one_type, two_types, case2, unused, operand, calculation, int_cast, stocked, nested, misread}
+use Rattle.rules.specs.Cases.Rows.{three, zeros, nil, nils, ends, fails, ran, valued, failing, stuck_on, Row}
 
 -- Each operator on numbers that tell it from every other (RULES 5.6).
 abbrev pub operators : List Row

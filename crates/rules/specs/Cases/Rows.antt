@@ -13,7 +13,7 @@ use Rattle.rules.specs.Steps.{Step}
 use Rattle.rules.specs.Start.{start}
 use Rattle.rules.specs.Run.{Answer, got, stopped, failed, no_rule, eval, run}
 use Rattle.rules.specs.Calls.{formed, judged, checking, inferable, Inferred, left, running, Ending, Ended, Left, finished, out_of_fuel, failed_check, stuck_at, ending_of, read_says, check_says, infer_says, run_says}
-use Rattle.rules.proofs.Cases.Least.{least_in, leaves_least}
+use Rattle.rules.specs.Cases.Least.{least_in, leaves_least}
 
 -- ---- a case, and what it says
 
