@@ -15,7 +15,7 @@ use Rattle.rules.specs.Kinds.{kind, same_kind, deep, same, kind_converts, target
 use Rattle.laws.specs.Same.{same_kind_eq, same_kind_refl, reflexive, same_depth}
 use Rattle.checker.specs.Tables.{kind_by, TypeTables, TwoTypes}
 
--- ---- kindConverts, targetsMatter, spreads
+-- ---- kind_converts, targets_matter, spreads
 
 to_any : (k : Kind) → true ≡ kind_converts k int
 to_any int = refl

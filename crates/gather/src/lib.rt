@@ -25,6 +25,7 @@ pub fn clear(m: &mut [u8])
 }
 
 // Notes the conversion of s to t beside the n noted so far, and tells how many there are.
+#[tactic(auto, using(crate::specs::Notes::unlisted, crate::specs::Notes::noted_seed))]
 fn note(from: &mut [u8; 2048], to: &mut [u8; 2048], m: &mut [u8], n: usize, s: u8, t: u8) -> usize
     requires { (n < 2048) × (length from.old ≡ 2048) × (length to.old ≡ 2048) × (s ≤ length m.old) × (t ≤ length m.old) }
     ensures { NotedIn from.old to.old m.old n s t result from.new to.new m.new }

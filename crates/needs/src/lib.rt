@@ -53,6 +53,7 @@ pub fn expr_need(file: &[u8], at: Starts, ty: &[u16; 1024], e: usize) -> Need
 }
 
 // What command row `c` asks: a store the conversion of its value to the target of its pointer's type.
+#[tactic(auto, using(crate::proofs::Operands::store_asks))]
 pub fn command_need(file: &[u8], at: Starts, ty: &[u16; 1024], c: usize) -> Need
     requires { Typed file.now at ty.now × (c < half file.now at.commands) }
     ensures { result ≡ command_need (routine file.now at) ((routine file.now at).command c) }

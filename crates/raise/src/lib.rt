@@ -124,6 +124,7 @@ fn pass(targets: &[u8], from: &[u8], to: &[u8], p: &[u8], m: &mut [u8]) -> bool
 }
 
 // Until nothing moves.
+#[tactic(auto, using(crate::specs::Moves::raises_rests))]
 pub fn settle(targets: &[u8], from: &[u8], to: &[u8], p: &[u8], m: &mut [u8])
     requires { (length m.old ≤ 255) × Tables (length m.old) targets.now p.now × Lists (length m.old) from.now to.now }
     ensures { Rests (length m.old) targets.now p.now from.now to.now m.old m.new }

@@ -7,7 +7,7 @@ pub loop-i-init : goal.loop-i-init
 loop-i-init c = (omega arith, passed_none _)
 
 pub loop-i-preserved : goal.loop-i-preserved
-loop-i-preserved c = (omega arith, passed_more _ _ c.loop-i.invariant.1 (le-leb _ _ c.if-marking-i-gt2.false))
+loop-i-preserved c = (omega arith, passed_more _ _ c.loop-i.invariant.1 (le-leb _ _ (omega arith)))
 
 pub returns : goal.returns
 returns c = found_none _ _ _ c.loop-i.invariant.1 c.loop-i.invariant.0 c.loop-i-test.false

@@ -6,8 +6,5 @@ use Rattle.gather.proofs.note.Goals as goal
 pub returns-then-t-eq0 : goal.returns-then-t-eq0
 returns-then-t-eq0 c = unlisted _ _ _ (noted_none c.if-t-eq0.true)
 
-pub returns-then-s-eq0 : goal.returns-then-s-eq0
-returns-then-s-eq0 c = unlisted _ _ _ (noted_seed c.if-s-eq0.true (omega (arith, c.if-t-eq0.false)) c.at_least.ensures)
-
 pub returns : goal.returns
-returns c = noted_push _ _ _ _ _ _ (omega (arith, c.requires.1)) (omega (arith, c.requires.2)) (omega (arith, c.if-s-eq0.false)) (omega (arith, c.if-t-eq0.false))
+returns c = noted_push _ _ _ _ _ _ (omega (arith, c.requires.1)) (omega (arith, c.requires.2)) (omega arith) (omega (arith, c.if-t-eq0.false))

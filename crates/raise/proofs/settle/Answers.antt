@@ -13,11 +13,8 @@ pass-moved-requires c = (omega (arith, c.requires.0, c.loop-moved.invariant.size
 pub shape_of-m-then-not-moved : goal.shape_of-m-then-not-moved
 shape_of-m-then-not-moved c = c.pass-moved.ensures.size ∙ c.loop-moved.invariant.size
 
-pub returns-then-not-moved : goal.returns-then-not-moved
-returns-then-not-moved c = raises_rests c.loop-moved.invariant.size c.loop-moved.invariant c.pass-moved.ensures c.if-not-moved.true
-
 pub loop-moved-smaller : goal.loop-moved-smaller
-loop-moved-smaller c = room_falls c.pass-moved.ensures c.if-not-moved.false
+loop-moved-smaller c = room_falls c.pass-moved.ensures (cc)
 
 pub loop-moved-preserved : goal.loop-moved-preserved
 loop-moved-preserved c = raises_more c.loop-moved.invariant.size c.loop-moved.invariant c.pass-moved.ensures

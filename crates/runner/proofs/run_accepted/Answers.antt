@@ -15,11 +15,8 @@ count-needed-requires c = (known c.requires, ap (λ (x : Counts). x.homes) c.row
 pub overflow_cast-result : goal.overflow_cast-result
 overflow_cast-result c = omega (arith, c.count-needed.ensures, (known c.requires).cells)
 
-pub returns-then-memory-needed : goal.returns-then-memory-needed
-returns-then-memory-needed c = run_short c.args.file.now c.args.marking.now _ _ c.args.at c.requires.verdict _ c.count-needed.ensures c.if-memory-needed.true
-
 pub run_checked-report-requires : goal.run_checked-report-requires
-run_checked-report-requires c = (c.requires, omega (arith, c.count-needed.ensures, c.if-memory-needed.false))
+run_checked-report-requires c = (c.requires, omega (arith, c.count-needed.ensures))
 
 pub returns : goal.returns
-returns c = run_goes c.args.file.now c.args.marking.now _ _ c.args.at c.requires.verdict _ c.count-needed.ensures _ c.if-memory-needed.false c.run_checked-report.ensures
+returns c = run_goes c.args.file.now c.args.marking.now _ _ c.args.at c.requires.verdict _ c.count-needed.ensures _ (omega arith) c.run_checked-report.ensures
