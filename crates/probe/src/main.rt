@@ -46,6 +46,12 @@ struct Turn {
     offset: u64,
 }
 
+// A read has failed: the answers so far go out, and the program ends with the error.
+fn lost(rt: &HostRuntime, out: &[u8], at: usize, error: io::Error) -> io::Result<Turn> {
+    lines::flush(rt, out, at)?;
+    Err(error)
+}
+
 // One request, if there is one.
 fn next_request<R: Read>(
     rt: &HostRuntime,
@@ -57,7 +63,10 @@ fn next_request<R: Read>(
     at: usize,
     offset: u64,
 ) -> io::Result<Turn> {
-    let letter = byte(input)?;
+    let letter = match byte(input) {
+        Ok(letter) => letter,
+        Err(error) => return lost(rt, out, at, error),
+    };
     let Number::Is(b) = letter else {
         return Ok(Turn {
             go: false,
@@ -77,6 +86,7 @@ fn next_request<R: Read>(
             at: put_bad(rt, out, at, offset)?,
             offset,
         }),
+        Answered::Lost(error) => lost(rt, out, at, error),
     }
 }
 

@@ -7,11 +7,12 @@ use crate::lines::put;
 use std::io;
 use std::io::Read;
 
-// A request that was answered: the bytes that it took, and how much of the output is filled; or one that is bad.
-#[derive(Clone, Copy)]
+// A request that was answered: the bytes that it took, and how much of the output is filled; one that is bad; or one that a failed read cut off.
+#[derive(Drop)]
 pub enum Answered {
     Line(u64, usize),
     Bad,
+    Lost(io::Error),
 }
 
 // Bytes with their 16-bit length in front, into the start of a buffer: how many there are.
@@ -78,7 +79,10 @@ pub fn answer_read<R: Read>(
     out: &mut [u8],
     at: usize,
 ) -> io::Result<Answered> {
-    let part = read_part(input, file)?;
+    let part = match read_part(input, file) {
+        Ok(part) => part,
+        Err(error) => return Ok(Answered::Lost(error)),
+    };
     let Number::Is(n) = part else {
         return Ok(Answered::Bad);
     };
@@ -119,7 +123,10 @@ pub fn answer_check<R: Read>(
     out: &mut [u8],
     at: usize,
 ) -> io::Result<Answered> {
-    let parts = read_two(input, file, marking)?;
+    let parts = match read_two(input, file, marking) {
+        Ok(parts) => parts,
+        Err(error) => return Ok(Answered::Lost(error)),
+    };
     let Two::Are(k, j) = parts else {
         return Ok(Answered::Bad);
     };
@@ -143,7 +150,10 @@ pub fn answer_infer<R: Read>(
     out: &mut [u8],
     at: usize,
 ) -> io::Result<Answered> {
-    let parts = read_two(input, file, marking)?;
+    let parts = match read_two(input, file, marking) {
+        Ok(parts) => parts,
+        Err(error) => return Ok(Answered::Lost(error)),
+    };
     let Two::Are(k, j) = parts else {
         return Ok(Answered::Bad);
     };
@@ -203,11 +213,17 @@ pub fn answer_run<R: Read>(
     out: &mut [u8],
     at: usize,
 ) -> io::Result<Answered> {
-    let parts = read_two(input, file, marking)?;
+    let parts = match read_two(input, file, marking) {
+        Ok(parts) => parts,
+        Err(error) => return Ok(Answered::Lost(error)),
+    };
     let Two::Are(k, j) = parts else {
         return Ok(Answered::Bad);
     };
-    let rest = read_rest(input, memory)?;
+    let rest = match read_rest(input, memory) {
+        Ok(rest) => rest,
+        Err(error) => return Ok(Answered::Lost(error)),
+    };
     let Rest::Is(fuel, i) = rest else {
         return Ok(Answered::Bad);
     };

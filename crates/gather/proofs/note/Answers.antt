@@ -1,6 +1,6 @@
 -- `gather::note` meets its contract, a law for each way out: to int, from int, between references.
 use native.Mathlib.Omega.{arith}
-use Rattle.gather.specs.Notes.{noted_none, noted_seed, unlisted, noted_push}
+use Rattle.gather.specs.Notes.{noted_none, unlisted, noted_push}
 use Rattle.gather.proofs.note.Goals as goal
 
 pub returns-then-t-eq0 : goal.returns-then-t-eq0

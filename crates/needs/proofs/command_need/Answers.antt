@@ -1,6 +1,6 @@
 -- Only a store asks anything; the types that it speaks of stand in the table.
 use native.Mathlib.Omega.{arith}
-use Rattle.needs.proofs.Operands.{store_pointer, store_value, pointer_asked, target_high, store_asks, command_quiet_asks}
+use Rattle.needs.proofs.Operands.{store_pointer, store_value, pointer_asked, target_high, command_quiet_asks}
 use Rattle.needs.proofs.command_need.Goals as goal
 
 pub bounds-ty-a : goal.bounds-ty-a

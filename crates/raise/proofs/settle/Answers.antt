@@ -1,6 +1,6 @@
 use mathlib.Core.Path.{◌∙◌}
 use Rattle.raise.specs.Demands.{tables_size, lists_size}
-use Rattle.raise.specs.Moves.{raises_none, raises_more, raises_rests, room_falls}
+use Rattle.raise.specs.Moves.{raises_none, raises_more, room_falls}
 use native.Mathlib.Omega.{arith}
 use Rattle.raise.proofs.settle.Goals as goal
 

@@ -3,7 +3,7 @@ use native.Mathlib.Omega.{arith}
 use mathlib.Core.Path.{ap}
 use Rattle.view.specs.declared.Counts.{Counts}
 use Rattle.filling.proofs.Words.{known}
-use Rattle.runner.proofs.Calls.{run_short, run_goes}
+use Rattle.runner.proofs.Calls.{run_goes}
 use Rattle.runner.proofs.run_accepted.Goals as goal
 
 pub row_counts-n-requires : goal.row_counts-n-requires
