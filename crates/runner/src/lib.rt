@@ -89,7 +89,7 @@ pub fn run_checked(
 }
 
 // The same in memory of any length: refusal 9.
-#[tactic(auto, unfolding(rules::specs::Calls::running, rules::specs::Calls::runnable))]
+#[tactic(auto, using(crate::proofs::Calls::run_short), unfolding(rules::specs::Calls::running, rules::specs::Calls::runnable))]
 fn run_accepted(
     file: &[u8],
     at: Starts,

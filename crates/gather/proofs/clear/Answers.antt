@@ -14,7 +14,7 @@ pub loop-i-smaller : goal.loop-i-smaller
 loop-i-smaller c = omega (arith, c.loop-i.invariant.1)
 
 pub loop-i-preserved : goal.loop-i-preserved
-loop-i-preserved c = (omega (arith, c.loop-i.invariant.1), length-set c.loop-i.m c.loop-i.i 0 ∙ c.loop-i.invariant.1, cleared_more _ _ (omega (arith, c.loop-i.invariant.1)) c.loop-i.invariant.2)
+loop-i-preserved c = (omega (arith, c.loop-i.invariant.1), length-set c.loop-i.m c.loop-i.i _ ∙ c.loop-i.invariant.1, cleared_more _ _ (omega (arith, c.loop-i.invariant.1)) c.loop-i.invariant.2)
 
 pub shape_of-m : goal.shape_of-m
 shape_of-m c = c.loop-i.invariant.1

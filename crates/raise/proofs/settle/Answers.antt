@@ -1,4 +1,3 @@
-use mathlib.Core.Path.{◌∙◌}
 use Rattle.raise.specs.Demands.{tables_size, lists_size}
 use Rattle.raise.specs.Moves.{raises_none, raises_more, room_falls}
 use native.Mathlib.Omega.{arith}
@@ -9,9 +8,6 @@ loop-moved-init c = raises_none
 
 pub pass-moved-requires : goal.pass-moved-requires
 pass-moved-requires c = (omega (arith, c.requires.0, c.loop-moved.invariant.size), tables_size c.loop-moved.invariant.size c.requires.1, lists_size c.loop-moved.invariant.size c.requires.2)
-
-pub shape_of-m-then-not-moved : goal.shape_of-m-then-not-moved
-shape_of-m-then-not-moved c = c.pass-moved.ensures.size ∙ c.loop-moved.invariant.size
 
 pub loop-moved-smaller : goal.loop-moved-smaller
 loop-moved-smaller c = room_falls c.pass-moved.ensures (cc)
