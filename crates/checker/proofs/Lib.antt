@@ -1,4 +1,4 @@
-pub mod KindLaws
-pub mod RowLaws
-pub mod JudgeLaws
-pub mod CheckLaws
+pub mod Types
+pub mod Judging
+pub mod Checking
+pub mod First

@@ -1,8 +1,8 @@
--- A file that was read and a marking, as the tables that the checker goes by; and refusal 8 by itself.
-use Rattle.std.specs.Prelude.{◌≡◌, ℕ, suc, ◌<◌, List, get_or}
+-- Refusal 8 by itself, and what checking answers.
+use Rattle.std.specs.Prelude.{◌≡◌, ℕ, suc, ◌<◌, List, get_or, Result}
 use Rattle.rules.specs.declared.Starts.{Starts}
-use Rattle.rules.specs.declared.ReadAnswer.{ReadAnswer}
-use Rattle.rules.specs.Calls.{read_says, judged}
+use Rattle.rules.specs.declared.Refusal.{Refusal}
+use Rattle.rules.specs.Calls.{says, judged}
 use Rattle.rules.specs.Basic.{Verdict, fine, refused, first_bad}
 use Rattle.rules.specs.Table.{Routine, routine}
 use Rattle.rules.specs.Shape.{type_of}
@@ -11,14 +11,6 @@ use Rattle.rules.specs.Reading.{reading}
 use Rattle.laws.specs.Known.{formed_reading}
 use Rattle.laws.specs.Read.{judged_fine}
 use Rattle.reader.specs.Tables.{TypeTable}
-use Rattle.needs.specs.Typed.{Typed}
-use Rattle.checker.specs.Tables.{TypeTables}
-
--- A well-formed file and the types of its expressions, under a marking that the tables stand for.
-pub record MarkedFile (s : List ℕ) (at : Starts) (types targets kinds : List ℕ) : Type 0 where
-  pub known : Typed s at types
-  pub marking : List ℕ
-  pub tables : TypeTables (routine s at) marking targets kinds
 
 -- Refusal 8, over types, expressions, commands.
 abbrev pub breaking : Routine → List ℕ → Starts → Verdict Starts
@@ -29,12 +21,12 @@ breaking r m at =
     fine at
 
 -- What checking with a table answers and leaves: it is filled exactly where no refusal from 1 to 5 comes first.
-pub record CheckedTyped (s m before after : List ℕ) (r : ReadAnswer) : Type 0 where
-  pub answer : read_says r ≡ judged s m
+pub record CheckedTyped (s m before after : List ℕ) (r : Result Starts Refusal) : Type 0 where
+  pub answer : says r ≡ judged s m
   pub filled : (at : Starts) → reading s ≡ fine at → TypeTable (routine s at) before after
   pub left : (n p : ℕ) → reading s ≡ refused n p → after ≡ before
 
 -- So it has the types of an accepted file's expressions.
-pub checked_types : {s m before after : List ℕ} {r : ReadAnswer} → CheckedTyped s m before after r → (at : Starts) → judged s m ≡ fine at
+pub checked_types : {s m before after : List ℕ} {r : Result Starts Refusal} → CheckedTyped s m before after r → (at : Starts) → judged s m ≡ fine at
     → (e : ℕ) → e < (routine s at).exprs → get_or after e 0 ≡ type_of (routine s at) e
 checked_types {s} {m} c at j = (c.filled at (formed_reading s at (judged_fine s m j).0)).types

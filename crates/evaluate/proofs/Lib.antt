@@ -1,4 +1,3 @@
 -- The laws that the proofs cite.
-pub mod Answers
 pub mod Rules
 pub mod Rows

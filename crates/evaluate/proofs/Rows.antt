@@ -10,7 +10,7 @@ use mathlib.Core.List.{List}
 use lib.ListN.{get_or}
 use lib.Dec.{ltb, lit<}
 use borrow.Author.Tests.{ltb-true, ltb-false, lt-ltb, le-ltb}
-use denote.Enum.Declared.{tag_of}
+use Rattle.std.specs.Prelude.{Result, Ok, Err}
 use Rattle.rules.specs.declared.Value.{Value}
 use Rattle.rules.specs.declared.Value.TheVariants.{Number, Pair}
 use Rattle.rules.specs.Table.{Operator, plus, minus, times, over, rest, equal, less, both, right, Expr, Home, Routine, literal, home, cast, null, sum, read, op}
@@ -20,7 +20,8 @@ use Rattle.rules.specs.declared.Kind.TheVariants.{int, SAFE, SEQ, DYNAMIC}
 use Rattle.rules.specs.Kinds.{kind}
 use Rattle.rules.specs.Steps.{Told}
 use Rattle.rules.specs.Memory.{State}
-use Rattle.rules.specs.Ruled.{Ruled, gives, fails, stuck, check1, check2, check3, check4}
+use Rattle.rules.specs.declared.Check.{Check}
+use Rattle.rules.specs.Ruled.{Ruled, gives, fails, stuck}
 use Rattle.rules.specs.Values.{convert, home_value, null_value, moved, operated}
 use Rattle.rules.specs.Run.{Answer as Answers, got, stopped, enter, answered, expr_row, eval}
 use Rattle.rules.specs.Valid.{Valid, Real}
@@ -30,13 +31,11 @@ use Rattle.laws.specs.Formed.{Fits, ref_type, ref_kind}
 use Rattle.laws.specs.Steps.{Answers as Told-is, value as is-value, stop as is_stop}
 use Rattle.laws.specs.Sound.{eval_ok}
 use Rattle.words.specs.Words.{op_in, a_in, high_in, home_op, null_op, cast_op, read_op, operator_op, op_for, a_for, home_field, b_for, ExprWord, Named, state}
-use Rattle.evaluate.specs.contracts.Answer as answer
+use Rattle.values.specs.Values.{checked}
 use Rattle.evaluate.specs.declared.Got.{Got}
-use Rattle.evaluate.specs.declared.Stop.TheVariants.{Fuel}
-use Rattle.evaluate.specs.declared.Answer.{Answer}
-use Rattle.evaluate.specs.declared.Answer.TheVariants.{Done, Stopped}
-use Rattle.evaluate.specs.Rows.{place_of, told, Asked, meant, entered, Operands, leaf_value, says, one_in, two_in, Ready}
-use Rattle.evaluate.proofs.Answers.{gave}
+use Rattle.evaluate.specs.declared.Stop.{Stop}
+use Rattle.evaluate.specs.declared.Cause.TheVariants.{Fuel}
+use Rattle.evaluate.specs.Rows.{place_of, told, Asked, meant, entered, says, one_in, two_in, Ready}
 use Rattle.evaluate.proofs.Rules.{Fine, given, failed, one_rule, two_rule, valid_named, one_is, read_inside, two_is}
 
 -- ---- places
@@ -93,6 +92,11 @@ operator_high right = omega arith
 value_same : (a : Answers) {k l : Value → ℕ → Answers} → ((v : Value) (f : ℕ) → k v f ≡ l v f) → value stopped a k ≡ value stopped a l
 value_same (got v f) h = h v f
 value_same (stopped s) h = refl
+
+-- The value of a row that has no operands, by its operation.
+abbrev leaf_value : ℕ → ℕ → Value
+leaf_value zero b = Number b
+leaf_value (suc k) b = Pair b 0
 
 home_leaf : (w : State) (h : Home) (g : ℕ) (s : Kind) → (home_at w.homes g).start ≡ h.start → home_value w s g ≡ leaf_value (home_op s) (home_field s h g)
 home_leaf w h g int e = refl
@@ -206,17 +210,13 @@ second_early r m e Expr.none y h = absurd y
 -- ---- the code's answers
 
 -- A stop is passed upward.
-pub stop_passes : (r : Routine) (x : Answer) (k : Value → ℕ → Answers) → tag_of answer.the_type x ≡ 1 → told r x ≡ value stopped (told r x) k
-stop_passes r (Done g) k h = absurd (omega arith)
-stop_passes r (Stopped s) k h = refl
+pub stop_passes : (r : Routine) (x : Result Got Stop) (s : Stop) (k : Value → ℕ → Answers) → x ≡ Err s → told r x ≡ value stopped (told r x) k
+stop_passes r x s k h = rw h
 
 -- A rule that is not stuck, as the code answers it.
-told_says : (r : Routine) (e f : ℕ) (u : Ruled Value) → Fine u → told r (says e f u) ≡ answered (place_of r e) f u
+told_says : (r : Routine) (e f : ℕ) (u : Ruled Value) → Fine u → told r (says e f (checked u)) ≡ answered (place_of r e) f u
 told_says r e f (gives v) y = refl
-told_says r e f (fails check1) y = refl
-told_says r e f (fails check2) y = refl
-told_says r e f (fails check3) y = refl
-told_says r e f (fails check4) y = refl
+told_says r e f (fails c) y = refl
 told_says r e f stuck y = elim y [ ]
 
 fine_of : {P : Value → Type 0} (p f : ℕ) (u : Ruled Value) → Told-is P (answered p f u) → Fine u
@@ -268,7 +268,7 @@ module _ {t memory : List ℕ} {row : ℕ} (g : Asked t memory row) where
   abbrev ev : ℕ → ℕ → Answers
   ev a f = (eval R M W a f).answer
 
-  pub no_fuel_lem : (f : ℕ) → f ≡ 0 → told g.rows.routine (Stopped (Fuel row)) ≡ meant g f
+  pub no_fuel_lem : (f : ℕ) → f ≡ 0 → told g.rows.routine (Err (record { row = row; cause = Fuel })) ≡ meant g f
   unfolding enter
   no_fuel_lem f h = rw (h, expr_place_lem g.rows.routine row few)
 
@@ -285,22 +285,25 @@ module _ {t memory : List ℕ} {row : ℕ} (g : Asked t memory row) where
   sound f = rw (once f) at (eval_ok g.rows.formed g.rows.accepted g.valid row (suc f) g.inside).answer
 
   module _ (f w : ℕ) (z : f ≡ 0 → ⊥) (e : w ≡ get_or t row 0) where
-    pub a_leaf : (o : ℕ) (x : Answer) → o ≡ op_in w → o < 2 → x ≡ gave (leaf_value (op_in w) (high_in w)) (f - 1) → told g.rows.routine x ≡ meant g f
-    a_leaf o x h l i =
-        let p : op_in w ≡ op_for R M X = rw e word.op in
+    a_leaf : (k : ℕ) → op_in w ≡ k → k < 2 → got (leaf_value k (high_in w)) (f - 1) ≡ meant g f
+    a_leaf k h l =
+        let p : op_for R M X ≡ k = sym (rw e word.op) ∙ h in
         let q : high_in w ≡ b_for R M X = rw e word.second in
         let s : entered g (f - 1) ≡ got (leaf_value (op_for R M X) (b_for R M X)) (f - 1)
-        = leaf_row R M W (λ a f₁. eval R M W a f₁) P row g.homes.declared X (f - 1) fits (omega (arith, h, p, l)) in
-        ap (told R) i ∙ ap (λ k. got (leaf_value k (high_in w)) (f - 1)) p ∙ ap (λ k. got (leaf_value (op_for R M X) k) (f - 1)) q ∙ sym (step f z ∙ s)
+        = leaf_row R M W (λ a f₁. eval R M W a f₁) P row g.homes.declared X (f - 1) fits (omega (arith, p, l)) in
+        sym (step f z ∙ s ∙ rw (p, q))
 
-    pub has_operands : (o : ℕ) → o ≡ op_in w → 2 ≤ o → Operands t memory row w
-    has_operands o h l = record { asked = g; word = e; some = omega (arith, h, l) }
+    pub a_number : (o n : ℕ) → o ≡ op_in w → o ≡ 0 → n ≡ high_in w → told g.rows.routine (Ok (record { left = f - 1; value = Number n })) ≡ meant g f
+    a_number o n h p q = rw q (a_leaf 0 (sym h ∙ p) (lit< tt))
 
-    pub a_compound : (x y : Answer) → x ≡ y → told g.rows.routine y ≡ entered g (f - 1) → told g.rows.routine x ≡ meant g f
-    a_compound x y i h = ap (told R) i ∙ h ∙ sym (step f z)
+    pub a_pair : (o n : ℕ) → o ≡ op_in w → o ≡ 1 → n ≡ high_in w → told g.rows.routine (Ok (record { left = f - 1; value = Pair n 0 })) ≡ meant g f
+    a_pair o n h p q = rw q (a_leaf 1 (sym h ∙ p) (lit< tt))
+
+    pub a_compound : (x : Result Got Stop) → told g.rows.routine x ≡ entered g (f - 1) → told g.rows.routine x ≡ meant g f
+    a_compound x h = h ∙ sym (step f z)
 
   -- An operand's answer, by the callee's contract.
-  abbrev pub Right : (a f : ℕ) → Answer → Type 0
+  abbrev pub Right : (a f : ℕ) → Result Got Stop → Type 0
   Right a f x = (k : Asked t memory a) → told k.rows.routine x ≡ meant k f
 
   module _ (w : ℕ) (e : w ≡ get_or t row 0) (o a f : ℕ) (h : o ≡ op_in w) (i : a ≡ a_in w) where
@@ -335,20 +338,20 @@ module _ {t memory : List ℕ} {row : ℕ} (g : Asked t memory row) where
 
     -- ---- the first operand
 
-    module _ (l : 2 ≤ op_in w) (y : Answer) (right : Right a f y) where
+    module _ (l : 2 ≤ op_in w) (y : Result Got Stop) (right : Right a f y) where
       first_right : told g.rows.routine y ≡ ev a f
       first_right = right (earlier g a (first_before l))
 
-      pub first_stops : (x : Answer) → x ≡ y → tag_of answer.the_type y ≡ 1 → told g.rows.routine x ≡ entered g f
-      first_stops x q tag = ap (told R) q ∙ go (below_or o)
+      pub first_stops : (s : Stop) → y ≡ Err s → told g.rows.routine y ≡ entered g f
+      first_stops s d = go (below_or o)
         where
           go : (o < 9) ⊎ (9 ≤ o) → told g.rows.routine y ≡ entered g f
-          go (inl u) = stop_passes R y (λ v f₁. answered P f₁ (one_rule W o v)) tag ∙ rw (one_equation l u, first_right)
+          go (inl u) = stop_passes R y s (λ v f₁. answered P f₁ (one_rule W o v)) d ∙ rw (one_equation l u, first_right)
           go (inr u) =
-              stop_passes R y (λ v f₁. value stopped (ev (high_in w) f₁) λ k f₂. answered P f₂ (two_rule o v k)) tag
+              stop_passes R y s (λ v f₁. value stopped (ev (high_in w) f₁) λ k f₂. answered P f₂ (two_rule o v k)) d
               ∙ rw (two_equation _ refl u, first_right)
 
-      module _ (z : Got) (d : y ≡ Done z) where
+      module _ (z : Got) (d : y ≡ Ok z) where
         first_gave : ev a f ≡ got z.value z.left
         first_gave = sym first_right ∙ ap (told R) d
 
@@ -369,28 +372,25 @@ module _ {t memory : List ℕ} {row : ℕ} (g : Asked t memory row) where
               inside = λ k a i j. read_inside g.homes.words g.valid o k a z.value operand_named (one_fine u) i j;
             }
 
-        pub a_one : (x : Answer) → o < 9 → x ≡ says row z.left (one_in t memory o z.value) → told g.rows.routine x ≡ entered g f
-        a_one x u s =
-            ap (told R) (s ∙ ap (says row z.left) (one_is g.homes.words g.valid o z.value operand_named (one_fine u)))
+        pub a_one : (x : Result Got Stop) (q : Result Value Check) → o < 9 → q ≡ checked (one_in t memory o z.value) → x ≡ says row z.left q → told g.rows.routine x ≡ entered g f
+        a_one x q u p s =
+            ap (told R) (s ∙ ap (says row z.left) p ∙ ap (λ k. says row z.left (checked k)) (one_is g.homes.words g.valid o z.value operand_named (one_fine u)))
             ∙ told_says R row z.left (one_rule W o z.value) (one_fine u)
             ∙ rw (one_equation l u, first_gave, expr_place_lem g.rows.routine row few)
 
         -- ---- the second operand
 
-        module _ (u : 9 ≤ o) (b : ℕ) (j : b ≡ high_in w) (x : Answer) (right₂ : Right b z.left x) where
+        module _ (u : 9 ≤ o) (b : ℕ) (j : b ≡ high_in w) (x : Result Got Stop) (right₂ : Right b z.left x) where
           second_right : told g.rows.routine x ≡ ev b z.left
           second_right = right₂ (earlier g b (second_before b j u))
 
-          pub second_stops : (r : Answer) → r ≡ x → tag_of answer.the_type x ≡ 1 → told g.rows.routine r ≡ entered g f
-          second_stops r q tag =
-              ap (told R) q
-              ∙ stop_passes R x (λ k f₂. answered P f₂ (two_rule o z.value k)) tag
-              ∙ rw (two_equation b j u, first_gave, second_right)
+          pub second_stops : (s : Stop) → x ≡ Err s → told g.rows.routine x ≡ entered g f
+          second_stops s d₂ = stop_passes R x s (λ k f₂. answered P f₂ (two_rule o z.value k)) d₂ ∙ rw (two_equation b j u, first_gave, second_right)
 
-          pub a_two : (y₂ : Got) (r : Answer) → x ≡ Done y₂ → r ≡ says row y₂.left (two_in o z.value y₂.value) → told g.rows.routine r ≡ entered g f
-          a_two y₂ r d₂ s =
+          pub a_two : (y₂ : Got) (r : Result Got Stop) (q : Result Value Check) → x ≡ Ok y₂ → q ≡ checked (two_in o z.value y₂.value) → r ≡ says row y₂.left q → told g.rows.routine r ≡ entered g f
+          a_two y₂ r q d₂ p s =
               let gave₂ : ev b z.left ≡ got y₂.value y₂.left = sym second_right ∙ ap (told R) d₂ in
               let fine : Fine (two_rule o z.value y₂.value) = fine_of P y₂.left _ (rw (two_equation b j u, first_gave, gave₂) at (sound f)) in
-              ap (told R) (s ∙ ap (says row y₂.left) (two_is o z.value y₂.value fine))
+              ap (told R) (s ∙ ap (says row y₂.left) p ∙ ap (λ k. says row y₂.left (checked k)) (two_is o z.value y₂.value fine))
               ∙ told_says R row y₂.left (two_rule o z.value y₂.value) fine
               ∙ rw (two_equation b j u, first_gave, gave₂, expr_place_lem g.rows.routine row few)

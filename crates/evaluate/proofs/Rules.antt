@@ -8,6 +8,7 @@ use mathlib.Core.List.{List, [], ◌∷◌}
 use lib.ListN.{get_or}
 use lib.Dec.{ltb, leb}
 use borrow.Author.Tests.{ltb-true, leb-true}
+use Rattle.std.specs.Prelude.{Result, Ok}
 use Rattle.rules.specs.declared.Value.{Value}
 use Rattle.rules.specs.declared.Value.TheVariants.{Number, Pair}
 use Rattle.rules.specs.Basic.{width, choose}
@@ -17,15 +18,17 @@ use Rattle.rules.specs.declared.Kind.{Kind}
 use Rattle.rules.specs.declared.Kind.TheVariants.{int, SAFE, SEQ, DYNAMIC}
 use Rattle.rules.specs.Kinds.{kind, is_dynamic}
 use Rattle.rules.specs.Memory.{State, cell, held}
-use Rattle.rules.specs.Ruled.{Check, Ruled, gives, fails, stuck, onward, must, check2}
+use Rattle.rules.specs.declared.Check.{Check}
+use Rattle.rules.specs.declared.Check.TheVariants.{Bounds}
+use Rattle.rules.specs.Ruled.{Ruled, gives, fails, stuck, onward, must}
 use Rattle.rules.specs.Operators.{applied}
 use Rattle.rules.specs.Values.{convert, moved, operated, reach_safe, reach, fetched, kept}
 use Rattle.laws.specs.Forget.{load}
 use Rattle.rules.specs.Valid.{In, Real, ValidAt, number, address, pair, wild_pair, Holds, ValidState}
 use Rattle.rules.specs.Tests.{false_true}
 use Rattle.words.specs.Words.{access_of, convert_of, keep_of, start_in, size_in, Homes, Named}
-use Rattle.values.specs.Values.{number_of, plus_of, to_int_in, to_pair, to_safe_in, not_null, reach_in, kept_in, as_number}
-use Rattle.evaluate.specs.Rows.{cell_in, one_in, two_in, Inside}
+use Rattle.values.specs.Values.{number_of, plus_of, to_int_in, to_pair, to_safe_in, not_null, reach_in, kept_in, as_number, checked}
+use Rattle.evaluate.specs.Rows.{cell_in, one_in, two_in, Inside, Ready}
 
 -- A rule that is not stuck.
 pub data Fine {X : Type 0} : Ruled X → Type 0 where
@@ -46,6 +49,16 @@ onward_same : {X Y : Type 0} (u : Ruled X) (k l : X → Ruled Y) → ((x : X) �
 onward_same (gives x) k l h = h x refl
 onward_same (fails c) k l h = refl
 onward_same stuck k l h = refl
+
+-- What the code answers tells what the rule gives.
+pub checked_gives : {X : Type 0} (u : Ruled X) (r : Result X Check) (x : X) → r ≡ checked u → r ≡ Ok x → u ≡ gives x
+checked_gives (gives y) r x p q = cc
+checked_gives (fails c) r x p q = cc
+checked_gives stuck r x p q = cc
+
+-- An access's address lies in the memory.
+pub access_inside : (t memory : List ℕ) (k o : ℕ) (v : Value) (r : Result ℕ Check) (a : ℕ) → Ready t memory o v → o ≡ 5 + k → r ≡ checked (reach_in t k v) → r ≡ Ok a → Inside memory a
+access_inside t memory k o v r a y p h q = y.inside k a p (checked_gives (reach_in t k v) r a h q)
 
 -- ---- the rules by the operation
 
@@ -112,7 +125,7 @@ holds_named {r} {m} hs {h} {v} y = go (is_dynamic (kind m h.type)) refl
 abbrev at : List Home → List ℕ → State
 at hs memory = record { homes = hs; memory = memory }
 
-must_number : (b : Bool) (k : ℕ) → must check2 b (gives (Number k)) ≡ as_number (must check2 b (gives k))
+must_number : (b : Bool) (k : ℕ) → must Bounds b (gives (Number k)) ≡ as_number (must Bounds b (gives k))
 must_number true k = refl
 must_number false k = refl
 
@@ -176,7 +189,7 @@ module _ (hs : List Home) (memory : List ℕ) where
   seq_is (fails c) y = refl
   seq_is stuck y = elim y [ ]
 
-  dynamic_is : (b : Bool) (a : ℕ) → (b ≡ true → a ≡ 0 → ⊥) → Fine (must check2 b (reach_safe (at hs memory) (Number a))) → must check2 b (reach_safe (at hs memory) (Number a)) ≡ must check2 b (gives a)
+  dynamic_is : (b : Bool) (a : ℕ) → (b ≡ true → a ≡ 0 → ⊥) → Fine (must Bounds b (reach_safe (at hs memory) (Number a))) → must Bounds b (reach_safe (at hs memory) (Number a)) ≡ must Bounds b (gives a)
   dynamic_is true a h y = safe_is a y ∙ past_null a (h refl)
   dynamic_is false a h y = refl
 
@@ -198,7 +211,7 @@ module _ {r : Routine} {m t : List ℕ} {hs : List Home} {memory : List ℕ} (si
   reach_is DYNAMIC (Number n) l y = elim y [ ]
   reach_is DYNAMIC (Pair zero n) l y = refl
   reach_is DYNAMIC (Pair (suc g) n) l y =
-      let e : reach (at hs memory) DYNAMIC (Pair (suc g) n) ≡ must check2 (ltb n (size_in t (suc g))) (reach_safe (at hs memory) (Number ((start_in t (suc g) + n) % width)))
+      let e : reach (at hs memory) DYNAMIC (Pair (suc g) n) ≡ must Bounds (ltb n (size_in t (suc g))) (reach_safe (at hs memory) (Number ((start_in t (suc g) + n) % width)))
       = rw (sizes.start (suc g) l, sizes.size (suc g) l) in
       e ∙ dynamic_is hs memory (ltb n (size_in t (suc g))) _ (λ b z. not_zero g n (ltb-true _ _ b) l z) (rw e at y)
 
@@ -218,30 +231,30 @@ module _ {r : Routine} {m t : List ℕ} {hs : List Home} {memory : List ℕ} (si
           }
 
   safe_inside : (v : Value) (a : ℕ) → reach_safe (at hs memory) v ≡ gives a → Inside memory a
-  safe_inside (Number zero) a h = let z : ◌≡◌ {A = ℕ} 0 1 = cc in absurd (omega arith)
+  safe_inside (Number zero) a h = absurd cc
   safe_inside (Number (suc n)) a h = go (held hs (suc n)) refl
     where
       go : (b : Bool) → held hs (suc n) ≡ b → Inside memory a
       go true e = let i : suc n ≡ a = (let j : ◌≡◌ {A = Ruled ℕ} (gives (suc n)) (gives a) = rw e at h in cc) in rw (← i) (held_inside n e)
-      go false e = let j : ◌≡◌ {A = Ruled ℕ} stuck (gives a) = rw e at h in let z : ◌≡◌ {A = ℕ} 0 1 = cc in absurd (omega arith)
-  safe_inside (Pair g n) a h = let z : ◌≡◌ {A = ℕ} 0 1 = cc in absurd (omega arith)
+      go false e = let j : ◌≡◌ {A = Ruled ℕ} stuck (gives a) = rw e at h in absurd cc
+  safe_inside (Pair g n) a h = absurd cc
 
   seq_inside : (u : Ruled Value) (a : ℕ) → onward u (λ v. reach_safe (at hs memory) v) ≡ gives a → Inside memory a
   seq_inside (gives v) a h = safe_inside v a h
-  seq_inside (fails c) a h = let z : ◌≡◌ {A = ℕ} 0 1 = cc in absurd (omega arith)
-  seq_inside stuck a h = let z : ◌≡◌ {A = ℕ} 0 1 = cc in absurd (omega arith)
+  seq_inside (fails c) a h = absurd cc
+  seq_inside stuck a h = absurd cc
 
   must_inside : (c : Check) (b : Bool) (v : Value) (a : ℕ) → must c b (reach_safe (at hs memory) v) ≡ gives a → Inside memory a
   must_inside c true v a h = safe_inside v a h
-  must_inside c false v a h = let z : ◌≡◌ {A = ℕ} 0 1 = cc in absurd (omega arith)
+  must_inside c false v a h = absurd cc
 
   pub reach_inside : (s : Kind) (v : Value) (a : ℕ) → reach (at hs memory) s v ≡ gives a → Inside memory a
-  reach_inside int v a h = let z : ◌≡◌ {A = ℕ} 0 1 = cc in absurd (omega arith)
+  reach_inside int v a h = absurd cc
   reach_inside SAFE v a h = safe_inside v a h
   reach_inside SEQ v a h = seq_inside (convert (at hs memory) SAFE v) a h
-  reach_inside DYNAMIC (Number n) a h = let z : ◌≡◌ {A = ℕ} 0 1 = cc in absurd (omega arith)
-  reach_inside DYNAMIC (Pair zero n) a h = let z : ◌≡◌ {A = ℕ} 0 1 = cc in absurd (omega arith)
-  reach_inside DYNAMIC (Pair (suc g) n) a h = must_inside check2 (ltb n (home_at hs (suc g)).size) (Number (((home_at hs (suc g)).start + n) % width)) a h
+  reach_inside DYNAMIC (Number n) a h = absurd cc
+  reach_inside DYNAMIC (Pair zero n) a h = absurd cc
+  reach_inside DYNAMIC (Pair (suc g) n) a h = must_inside Bounds (ltb n (home_at hs (suc g)).size) (Number (((home_at hs (suc g)).start + n) % width)) a h
 
   -- ---- reads
 

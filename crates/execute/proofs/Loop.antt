@@ -4,7 +4,7 @@ use Prim.Native.Nat.{ℕ, zero, suc, ◌+◌, ◌-◌, ◌<◌, ◌≤◌}
 use native.Mathlib.Numerals.{sub-one}
 use native.Mathlib.Omega.{arith}
 use mathlib.Core.List.{List}
-use denote.Enum.Declared.{tag_of}
+use Rattle.std.specs.Prelude.{Result, Ok, Err}
 use Rattle.rules.specs.declared.Value.{Value}
 use Rattle.rules.specs.Basic.{choose}
 use Rattle.rules.specs.Table.{Command, Home, Routine}
@@ -18,17 +18,14 @@ use Rattle.laws.specs.Units.{left_of, eval_spends, exec_spends}
 use Rattle.words.specs.Ops.{op_while}
 use Rattle.words.specs.Words.{a_in, b_in, first_for, second_for, state}
 use Rattle.values.specs.Values.{number_of}
-use Rattle.evaluate.specs.contracts.Answer as answer
 use Rattle.evaluate.proofs.Rules.{Fine}
 use Rattle.evaluate.proofs.Rows.{command_place_lem}
 use Rattle.evaluate.specs.declared.Got.{Got}
-use Rattle.evaluate.specs.declared.Answer.{Answer}
-use Rattle.evaluate.specs.declared.Answer.TheVariants as answers
+use Rattle.evaluate.specs.declared.Stop.{Stop}
+use Rattle.evaluate.specs.declared.Cause.TheVariants.{Fuel}
 use Rattle.evaluate.specs.Rows.{told, Asked}
 use Rattle.execute.proofs.Rows.{while_row, while_early, stop_told_lem, ran_told_lem, rule_fine, truth_false, truth_true, valid_after, command, expression, Valued, Carried, sound, is_op, is_first, is_second}
-use Rattle.execute.specs.declared.Ran.{Ran}
-use Rattle.execute.specs.declared.Ran.TheVariants.{Done, Fuel}
-use Rattle.execute.specs.Commands.{ran_told, stopped_of, Commanded, entered_run, Entered}
+use Rattle.execute.specs.Commands.{ran_told, Commanded, entered_run, Entered}
 
 module _ {t start : List ℕ} {row : ℕ} (g : Commanded t start row) where
   abbrev R : Routine
@@ -93,12 +90,12 @@ module _ {t start : List ℕ} {row : ℕ} (g : Commanded t start row) where
           ∙ turn_answer (turned.bound - 1) P (λ w f₁. eval R M w (first_for X) f₁) (λ w f₁. exec R M w (second_for X) f₁) (at l) left
           ∙ ap (λ k. value (halted (at l)) (eval R M (at l) k left).answer (λ v f₁. Next (turned.bound - 1) v f₁)) (is_first g y a i)
 
-      module _ (x : Answer) (right : Valued t l a left x) where
-        pub loop_stops : (r : Ran) → tag_of answer.the_type x ≡ 1 → r ≡ stopped_of x → ran_told g.rows.routine g.homes.list r l ≡ entered_run g fuel
-        loop_stops r tag q =
-            ap (λ s. ran_told R H s l) q ∙ stop_told_lem R H l x (λ v f₁. Next (turned.bound - 1) v f₁) tag ∙ rw (right test_asked, at_test)
+      module _ (x : Result Got Stop) (right : Valued t l a left x) where
+        pub loop_stops : (s : Stop) (r : Result ℕ Stop) → x ≡ Err s → r ≡ Err s → ran_told g.rows.routine g.homes.list r l ≡ entered_run g fuel
+        loop_stops s r h q =
+            ap (λ s. ran_told R H s l) q ∙ stop_told_lem R H l x s (λ v f₁. Next (turned.bound - 1) v f₁) h ∙ rw (right test_asked, at_test)
 
-        module _ (v : Got) (d : x ≡ answers.Done v) (n : ℕ) (j : n ≡ number_of v.value) where
+        module _ (v : Got) (d : x ≡ Ok v) (n : ℕ) (j : n ≡ number_of v.value) where
           test_gave : (eval R M (at l) a left).answer ≡ got v.value v.left
           test_gave = sym (right test_asked) ∙ ap (told R) d
 
@@ -108,7 +105,7 @@ module _ {t start : List ℕ} {row : ℕ} (g : Commanded t start row) where
           test_fine : Fine (truth v.value)
           test_fine = rule_fine (at l) P v.left (truth v.value) _ (rw past_test at (sound g fuel))
 
-          pub loop_ends : n ≡ 0 → ran_told g.rows.routine g.homes.list (Done v.left) l ≡ entered_run g fuel
+          pub loop_ends : n ≡ 0 → ran_told g.rows.routine g.homes.list (Ok v.left) l ≡ entered_run g fuel
           loop_ends z = rw (past_test, truth_false v.value test_fine (sym j ∙ z))
 
           module _ (z : n ≡ 0 → ⊥) (b : ℕ) (k : b ≡ b_in w) where
@@ -121,18 +118,18 @@ module _ {t start : List ℕ} {row : ℕ} (g : Commanded t start row) where
             at_body : entered_run g fuel ≡ ended (exec R M (at l) b v.left).answer λ w₂ f₂. Again (turned.bound - 1) w₂ f₂
             at_body = past_test ∙ rw (truth_true v.value test_fine (λ q. z (j ∙ q)), is_second g y b k)
 
-            module _ (u : Ran) (l₂ : List ℕ) (right₂ : Carried t l b v.left u l₂) where
-              pub loop_breaks : (r : Ran) → ((n : ℕ) → u ≡ Done n → ⊥) → r ≡ u → ran_told g.rows.routine g.homes.list r l₂ ≡ entered_run g fuel
-              loop_breaks r tag q = ap (λ s. ran_told R H s l₂) q ∙ ran_told_lem R H l₂ u (λ w₂ f₂. Again (turned.bound - 1) w₂ f₂) tag ∙ rw (right₂ body_asked, at_body)
+            module _ (u : Result ℕ Stop) (l₂ : List ℕ) (right₂ : Carried t l b v.left u l₂) where
+              pub loop_breaks : (s : Stop) (r : Result ℕ Stop) → u ≡ Err s → r ≡ Err s → ran_told g.rows.routine g.homes.list r l₂ ≡ entered_run g fuel
+              loop_breaks s r h q = ap (λ s. ran_told R H s l₂) q ∙ ran_told_lem R H l₂ u s (λ w₂ f₂. Again (turned.bound - 1) w₂ f₂) h ∙ rw (right₂ body_asked, at_body)
 
-              module _ (f₂ : ℕ) (d₂ : u ≡ Done f₂) where
+              module _ (f₂ : ℕ) (d₂ : u ≡ Ok f₂) where
                 body_gave : (exec R M (at l) b v.left).answer ≡ done (at l₂) f₂
                 body_gave = sym (right₂ body_asked) ∙ ap (λ s. ran_told R H s l₂) d₂
 
                 past_body : entered_run g fuel ≡ entry (halted (at l₂)) P f₂ λ f₃. from (turned.bound - 1) l₂ f₃
                 past_body = at_body ∙ rw body_gave
 
-                pub loop_dry : f₂ ≡ 0 → ran_told g.rows.routine g.homes.list (Fuel (1024 + row)) l₂ ≡ entered_run g fuel
+                pub loop_dry : f₂ ≡ 0 → ran_told g.rows.routine g.homes.list (Err (record { row = 1024 + row; cause = Fuel })) l₂ ≡ entered_run g fuel
                 loop_dry q = rw (past_body, q, command_place_lem g.rows.routine row)
 
                 -- Fuel falls.

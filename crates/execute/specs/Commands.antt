@@ -1,33 +1,23 @@
 -- What the carrying out of a command row from its word is held to: the answer, and every entry of the memory.
-use Rattle.std.specs.Prelude.{◌≡◌, ℕ, ◌+◌, ◌<◌, List, get_or}
+use Rattle.std.specs.Prelude.{◌≡◌, ℕ, ◌+◌, ◌<◌, List, get_or, Result, Ok, Err}
 use Rattle.rules.specs.Table.{Home, Routine}
 use Rattle.rules.specs.Shape.{type_of}
 use Rattle.rules.specs.Kinds.{kind}
 use Rattle.rules.specs.Memory.{put}
 use Rattle.rules.specs.Values.{kept}
-use Rattle.rules.specs.Run.{no_fuel, Ran as Runs, done, halted, eval, command_row, exec}
+use Rattle.rules.specs.Run.{Ran as Runs, done, halted, eval, command_row, exec}
 use Rattle.rules.specs.Valid.{ValidState}
 use Rattle.laws.specs.Forget.{value, rule}
 use Rattle.words.specs.Ops.{op_store}
 use Rattle.words.specs.Words.{op_in, first_for, second_for, RowWords, HomeWords, state}
-use Rattle.evaluate.specs.declared.Stop.TheVariants as stop
-use Rattle.evaluate.specs.declared.Answer.{Answer}
-use Rattle.evaluate.specs.declared.Answer.TheVariants as answer
-use Rattle.evaluate.specs.Rows.{place_of, failing, Inside}
-use Rattle.execute.specs.declared.Ran.{Ran}
-use Rattle.execute.specs.declared.Ran.TheVariants.{Done, Fuel, Check}
+use Rattle.evaluate.specs.declared.Stop.{Stop}
+use Rattle.evaluate.specs.Rows.{stop_told, Inside}
 
 -- ---- the code's answer and the memory, as the rules say them
 
-abbrev pub ran_told : Routine → List Home → Ran → List ℕ → Runs
-ran_told r hs (Done f) memory = done (record { homes = hs; memory = memory }) f
-ran_told r hs (Fuel i) memory = halted (record { homes = hs; memory = memory }) (no_fuel (place_of r i))
-ran_told r hs (Check n i f) memory = halted (record { homes = hs; memory = memory }) (failing n (place_of r i) f)
-
-abbrev pub stopped_of : Answer → Ran
-stopped_of (answer.Done x) = Done x.left
-stopped_of (answer.Stopped (stop.Fuel i)) = Fuel i
-stopped_of (answer.Stopped (stop.Check n i f)) = Check n i f
+abbrev pub ran_told : Routine → List Home → Result ℕ Stop → List ℕ → Runs
+ran_told r hs (Ok f) memory = done (record { homes = hs; memory = memory }) f
+ran_told r hs (Err s) memory = halted (record { homes = hs; memory = memory }) (stop_told r s)
 
 -- ---- a command row of a table's routine, in a memory that is valid for the table's homes
 

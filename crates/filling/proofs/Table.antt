@@ -1,27 +1,25 @@
 -- A word that is written is the row's, and the others stay.
-use mathlib.Core.Path.{◌≡◌, refl, ap, ◌∙◌}
-use Prim.Native.Nat.{ℕ, zero, suc, ◌+◌, ◌*◌, ◌-◌, ◌<◌, ◌≤◌}
-use native.Mathlib.Nat.{not-suc-le-zero}
-use native.Mathlib.Omega.{arith}
-use mathlib.Core.List.{List, [], ◌∷◌}
-use lib.ListN.{get_or, length, drop, set, length-set, get_or-eq_default}
-use lib.Seq.{get_or-set_same, get_or-set_other, get_or-drop}
-use native.Mathlib.Decide.{ℕ_discrete, dec_le}
+use Rattle.std.proofs.Common.{◌≡◌, refl, ap, ◌∙◌, ℕ, zero, suc, ◌+◌, ◌*◌, ◌<◌, ◌≤◌, List, length, get_or, not-suc-le-zero, add-one, arith}
+use Rattle.std.proofs.Math.ListN.{set, length-set, get_or-eq_default}
+use Rattle.std.proofs.Math.Seq.{get_or-set_same, get_or-set_other}
+use Rattle.std.proofs.Math.Decide.{ℕ_discrete, dec_le}
 use Rattle.rules.specs.declared.Starts.{Starts}
 use Rattle.rules.specs.Basic.{half}
-use Rattle.rules.specs.Table.{Home, layout, routine}
+use Rattle.rules.specs.Table.{Home, Routine, layout, routine}
 use Rattle.rules.specs.Shape.{home_at, no_home}
+use Rattle.laws.specs.WellRead.{WellRead}
 use Rattle.words.specs.Words.{low_in, high_in, ExprWord, CommandWord, start_in, size_in, Homes}
 use Rattle.view.specs.declared.HomeRow.{HomeRow}
 use Rattle.view.specs.Rows.{home_row}
-use Rattle.filling.specs.Filling.{Blank, HomesDone, ExprsDone, CommandsDone}
+use Rattle.view.specs.Means.{home_has, home_in_range}
+use Rattle.filling.specs.Filling.{HomesDone, CommandsDone}
 
 -- By whether two numbers are equal, and by which is the larger.
 same_or : {X : Type 0} (i j : ℕ) → (i ≡ j → X) → ((i ≡ j → ⊥) → X) → X
 same_or i j f g = elim (ℕ_discrete i j) [ yes e ↦ f e | no n ↦ g n ]
 
-most_or : {X : Type 0} (i j : ℕ) → (i ≤ j → X) → (j < i → X) → X
-most_or i j f g = elim (dec_le i j) [ yes l ↦ f l | no n ↦ g (omega arith) ]
+less_or : {X : Type 0} (i j : ℕ) → (i < j → X) → (j ≤ i → X) → X
+less_or i j f g = elim (dec_le j i) [ yes l ↦ g l | no n ↦ f (omega arith) ]
 
 -- ---- words of rows
 
@@ -36,12 +34,16 @@ homes_stay {hs} {t} i w l h =
 below : (i e : ℕ) → e < i + 1 → (e ≡ i → ⊥) → e < i
 below i e k q = omega (arith, k, q)
 
-module _ {s m t : List ℕ} {at : Starts} where
-  pub exprs_none : HomesDone s at t → ExprsDone s at m 0 t
-  exprs_none h = record { size = h.size; homes = h.homes; exprs = λ e l. absurd (not-suc-le-zero l); no_rows = λ k a b. h.no_rows k b }
+-- The words of the homes, and of the first n expression rows.
+pub record ExprsDone (r : Routine) (m : List ℕ) (n : ℕ) (t : List ℕ) : Type 0 where
+  pub size : length t ≡ 2304
+  pub homes : Homes r.homes t
+  pub exprs : (e : ℕ) → e < n → ExprWord r m (r.expr e) (get_or t e 0)
+  pub no_rows : (k : ℕ) → n ≤ k → k < 2048 → get_or t k 0 ≡ 0
 
-  pub exprs_more : (i w : ℕ) → i < 1024 → ExprsDone s at m i t → ExprWord (routine s at) m ((routine s at).expr i) w → ExprsDone s at m (i + 1) (set t i w)
-  exprs_more i w l h x =
+module _ {r : Routine} {m t : List ℕ} where
+  pub exprs_more : (i : ℕ) {w : ℕ} → i < 1024 → ExprsDone r m i t → ExprWord r m (r.expr i) w → ExprsDone r m (i + 1) (set t i w)
+  exprs_more i {w} l h x =
       record {
         size = length-set t i w ∙ h.size;
         homes = homes_stay i w (omega arith) h.homes;
@@ -51,23 +53,8 @@ module _ {s m t : List ℕ} {at : Starts} where
         no_rows = λ k a b. get_or-set_other t i k w 0 (λ q. omega (arith, a, q)) ∙ h.no_rows k (omega arith) b;
       }
 
-  pub exprs_all : (i n : ℕ) → i ≤ n → n ≤ i → ExprsDone s at m i t → ExprsDone s at m n t
-  exprs_all i n a b h = let e : n ≡ i = omega arith in rw e h
-
-  pub commands_none : half s at.exprs ≤ 1024 → ExprsDone s at m (half s at.exprs) t → CommandsDone s at m 0 t
-  commands_none few h =
-      record {
-        size = h.size;
-        homes = h.homes;
-        exprs = h.exprs;
-        no_exprs = λ e a b. h.no_rows e a (omega arith);
-        commands = λ c l. absurd (not-suc-le-zero l);
-        no_commands = λ c a b. h.no_rows (1024 + c) (omega (arith, few)) (omega arith);
-      }
-
-  pub commands_more : (i w : ℕ) → half s at.exprs ≤ 1024 → i < 1024 → CommandsDone s at m i t
-      → CommandWord (routine s at) m ((routine s at).command i) w → CommandsDone s at m (i + 1) (set t (1024 + i) w)
-  commands_more i w few l h x =
+  pub commands_more : (i : ℕ) {w : ℕ} → r.exprs ≤ 1024 → i < 1024 → CommandsDone r m i t → CommandWord r m (r.command i) w → CommandsDone r m (i + 1) (set t (1024 + i) w)
+  commands_more i {w} few l h x =
       record {
         size = length-set t (1024 + i) w ∙ h.size;
         homes = homes_stay (1024 + i) w (omega arith) h.homes;
@@ -79,127 +66,82 @@ module _ {s m t : List ℕ} {at : Starts} where
         no_commands = λ c a b. get_or-set_other t (1024 + i) (1024 + c) w 0 (λ q. omega (arith, a, q)) ∙ h.no_commands c (omega arith) b;
       }
 
-  pub commands_all : (i n : ℕ) → i ≤ n → n ≤ i → CommandsDone s at m i t → CommandsDone s at m n t
-  commands_all i n a b h = let e : n ≡ i = omega arith in rw e h
-
 -- ---- words of homes
 
 layout_length : (s : List ℕ) (q from n : ℕ) → length (layout s q from n) ≡ n
 layout_length s q from zero = refl
 layout_length s q from (suc n) = ap suc (layout_length s (q + 4) (from + half s (q + 2)) n)
 
-drop_next : (l : List Home) (i : ℕ) {h : Home} {hs : List Home} → drop i l ≡ h ∷ hs → drop (suc i) l ≡ hs
-drop_next [] zero e = let z : ◌≡◌ {A = ℕ} 0 1 = cc in absurd (omega arith)
-drop_next [] (suc i) e = let z : ◌≡◌ {A = ℕ} 0 1 = cc in absurd (omega arith)
-drop_next (x ∷ l) zero e = cc
-drop_next (x ∷ l) (suc i) e = drop_next l i e
+pub homes_length : (s : List ℕ) (at : Starts) → length (routine s at).homes ≡ suc (half s at.homes)
+homes_length s at = ap suc (layout_length s (at.homes + 2) 1 (half s at.homes))
 
--- Homes up to number i have their words; the next one starts at `from`.
-pub record HomesTo (s : List ℕ) (at : Starts) (n i from : ℕ) (t : List ℕ) : Type 0 where
+first_start : (s : List ℕ) (q from n : ℕ) → 0 < n → from ≡ (home_at (layout s q from n) 0).start
+first_start s q from zero l = absurd (not-suc-le-zero l)
+first_start s q from (suc n) l = refl
+
+-- Homes lie one after the other.
+next_start : (s : List ℕ) (q from n i : ℕ) → suc i < n
+    → (home_at (layout s q from n) i).start + (home_at (layout s q from n) i).size ≡ (home_at (layout s q from n) (suc i)).start
+next_start s q from zero i l = absurd (not-suc-le-zero l)
+next_start s q from (suc n) zero l = first_start s (q + 4) (from + half s (q + 2)) n (omega arith)
+next_start s q from (suc n) (suc i) l = next_start s (q + 4) (from + half s (q + 2)) n i (omega arith)
+
+home_next : (s : List ℕ) (at : Starts) (g : ℕ) → 1 ≤ g → g < half s at.homes
+    → (home_at (routine s at).homes g).start + (home_at (routine s at).homes g).size ≡ (home_at (routine s at).homes (suc g)).start
+home_next s at zero f l = absurd (not-suc-le-zero f)
+home_next s at (suc g) f l = next_start s (at.homes + 2) 1 (half s at.homes) g l
+
+-- Homes below number g have their words, and home g starts at `from`.
+pub record HomesTo (s : List ℕ) (at : Starts) (g from : ℕ) (t : List ℕ) : Type 0 where
   pub size : length t ≡ 2304
-  pub few : n ≤ 64
-  pub fits : i ≤ n
-  pub low : from ≤ 1 + 65536 * i
-  pub rest : drop i (layout s (at.homes + 2) 1 n) ≡ layout s (at.homes + 2 + 4 * i) from (n - i)
-  pub starts : (g : ℕ) → g ≤ i → start_in t g ≡ (home_at (routine s at).homes g).start
-  pub sizes : (g : ℕ) → g ≤ i → size_in t g ≡ (home_at (routine s at).homes g).size
-  pub empty : (g : ℕ) → i < g → get_or t (2048 + g) 0 ≡ 0
+  pub low : from ≤ 65536 * g
+  pub next : g ≤ half s at.homes → from ≡ (home_at (routine s at).homes g).start
+  pub starts : (h : ℕ) → h < g → start_in t h ≡ (home_at (routine s at).homes h).start
+  pub sizes : (h : ℕ) → h < g → size_in t h ≡ (home_at (routine s at).homes h).size
+  pub empty : (h : ℕ) → g ≤ h → get_or t (2048 + h) 0 ≡ 0
   pub no_rows : (k : ℕ) → k < 2048 → get_or t k 0 ≡ 0
 
-none_before : (g : ℕ) → g ≤ 0 → g ≡ 0
-none_before g l = omega arith
+module _ {s : List ℕ} {at : Starts} where
+  module _ (known : WellRead s at) {g from : ℕ} {t : List ℕ} (first : 1 ≤ g) (last : g ≤ half s at.homes) (h : HomesTo s at g from t) where
+    pub home_near : from ≤ 4194304
+    home_near = omega (arith, h.low, known.homes.few)
 
-pub homes_first : (s : List ℕ) (at : Starts) (n w : ℕ) (t : List ℕ) → w ≡ 4294967296 → Blank s at n t → HomesTo s at n 0 1 (set t 2048 w)
-homes_first s at n w t d b =
-    let c : get_or (set t 2048 w) 2048 0 ≡ 4294967296 = get_or-set_same t 2048 w 0 (omega (arith, b.size)) ∙ d in
-    record {
-      size = length-set t 2048 w ∙ b.size;
-      few = omega (arith, b.count, b.file.homes.few);
-      fits = omega arith;
-      low = omega arith;
-      rest = let e : at.homes + 2 + 4 * 0 ≡ at.homes + 2 = omega arith in let f : n - 0 ≡ n = omega arith in rw (e, f);
-      starts = λ g l. let z : g ≡ 0 = none_before g l in rw (z, c);
-      sizes = λ g l. let z : g ≡ 0 = none_before g l in rw (z, c);
-      empty = λ g l. get_or-set_other t 2048 (2048 + g) w 0 (λ e. omega arith) ∙ b.empty (2048 + g);
-      no_rows = λ k l. get_or-set_other t 2048 k w 0 (λ e. omega arith) ∙ b.empty k;
-    }
+    pub homes_more : {row : HomeRow} {size w : ℕ} → row ≡ home_row s at g → size ≡ row.size → w ≡ from + 4294967296 * size
+        → HomesTo s at (g + 1) (from + size) (set t (2048 + g) w)
+    homes_more {row} {size} {w} is size_is made =
+        let few : g ≤ 64 = omega (arith, last, known.homes.few) in
+        let c : get_or (set t (2048 + g) w) (2048 + g) 0 ≡ w = get_or-set_same t (2048 + g) w 0 (omega (arith, h.size)) in
+        let z : size ≡ (home_at (routine s at).homes g).size = size_is ∙ ap (λ (x : HomeRow). x.size) is ∙ (home_has s at g first last).size in
+        let small : size ≤ 1024 = rw z (rw (home_has s at g first last).size at (home_in_range s at known g first last).1.1) in
+        let a : low_in w ≡ from = omega (arith, made, home_near) in
+        let b : high_in w ≡ size = omega (arith, made, home_near) in
+        record {
+          size = length-set t (2048 + g) w ∙ h.size;
+          low = omega (arith, h.low);
+          next = λ l. rw (z, h.next last, add-one g) (home_next s at g first (omega arith));
+          starts = λ i l. same_or i g
+              (λ e. rw (e, c) (a ∙ h.next last))
+              (λ e. rw (get_or-set_other t (2048 + g) (2048 + i) w 0 (λ u. e (omega arith))) (h.starts i (below g i l e)));
+          sizes = λ i l. same_or i g
+              (λ e. rw (e, c) (b ∙ z))
+              (λ e. rw (get_or-set_other t (2048 + g) (2048 + i) w 0 (λ u. e (omega arith))) (h.sizes i (below g i l e)));
+          empty = λ i l. get_or-set_other t (2048 + g) (2048 + i) w 0 (λ u. omega arith) ∙ h.empty i (omega arith);
+          no_rows = λ k l. get_or-set_other t (2048 + g) k w 0 (λ u. omega arith) ∙ h.no_rows k l;
+        }
 
-module _ {s : List ℕ} {at : Starts} {n i from : ℕ} {t : List ℕ} (h : HomesTo s at n i from t) (l : i < n) (count : n ≡ half s at.homes) where
-  abbrev q : ℕ
-  q = at.homes + 2 + 4 * i
-
-  -- Home i + 1 is the first of those that are left.
-  next : drop i (layout s (at.homes + 2) 1 n) ≡ record { type = half s (at.homes + 2 + 4 * i); start = from; size = half s (at.homes + 2 + 4 * i + 2) } ∷ layout s (at.homes + 2 + 4 * i + 4) (from + half s (at.homes + 2 + 4 * i + 2)) (n - i - 1)
-  next = let e : n - i ≡ suc (n - i - 1) = omega arith in rw e at h.rest
-
-  here : home_at (routine s at).homes (suc i) ≡ record { type = half s (at.homes + 2 + 4 * i); start = from; size = half s (at.homes + 2 + 4 * i + 2) }
-  here =
-      let z : i + 0 ≡ i = omega arith in
-      let e : get_or (layout s (at.homes + 2) 1 n) i no_home ≡ get_or (drop i (layout s (at.homes + 2) 1 n)) 0 no_home
-      = rw (get_or-drop i (layout s (at.homes + 2) 1 n) 0 no_home, z) in
-      rw (← count) (e ∙ ap (λ x. get_or x 0 no_home) next)
-
-  abbrev size : ℕ
-  size = half s (at.homes + 2 + 4 * i + 2)
-
-  pub homes_more : (row : HomeRow) (w : ℕ) → row ≡ home_row s at (i + 1) → row.size < 65536 → w ≡ from + 4294967296 * row.size
-      → HomesTo s at n (i + 1) (from + row.size) (set t (2049 + i) w)
-  homes_more row w p small made =
-      let z : i + 1 - 1 ≡ i = omega arith in
-      let r : row.size ≡ half s (at.homes + 2 + 4 * i + 2) = ap (λ (x : HomeRow). x.size) p ∙ rw z in
-      let c : get_or (set t (2049 + i) w) (2049 + i) 0 ≡ w = get_or-set_same t (2049 + i) w 0 (omega (arith, h.size, h.few)) in
-      let f : 1 + i ≡ suc i = omega arith in
+  -- All homes have their words.
+  pub homes_all : {g from : ℕ} {t : List ℕ} → WellRead s at → half s at.homes + 1 ≡ g → HomesTo s at g from t → HomesDone (routine s at) t
+  homes_all {g} known last h =
       record {
-        size = length-set t (2049 + i) w ∙ h.size;
-        few = h.few;
-        fits = omega arith;
-        low = omega (arith, h.low);
-        rest = rest r;
-        starts = λ g k. same_or g (suc i)
-            (λ e. let j : 2048 + g ≡ 2049 + i = omega arith in
-            let d : low_in w ≡ from = omega (arith, made, h.low, h.few) in rw (j, c, d, e, here))
-            (λ e. rw (get_or-set_other t (2049 + i) (2048 + g) w 0 (λ u. e (omega arith))) (h.starts g (before g k e)));
-        sizes = λ g k. same_or g (suc i)
-            (λ e. let j : 2048 + g ≡ 2049 + i = omega arith in
-            let d : high_in w ≡ row.size = omega (arith, made, h.low, h.few) in rw (j, c, d, e, here, r))
-            (λ e. rw (get_or-set_other t (2049 + i) (2048 + g) w 0 (λ u. e (omega arith))) (h.sizes g (before g k e)));
-        empty = λ g k. get_or-set_other t (2049 + i) (2048 + g) w 0 (λ u. omega arith) ∙ h.empty g (omega arith);
-        no_rows = λ k l. get_or-set_other t (2049 + i) k w 0 (λ u. omega arith) ∙ h.no_rows k l;
+        size = h.size;
+        homes =
+            record {
+              few = λ i k. less_or i g (λ m. omega (arith, known.homes.few)) (λ m. absurd (omega (arith, k, ap (λ (x : Home). x.size) (past i m))));
+              start = λ i k. less_or i g (λ m. h.starts i m) (λ m. rw (h.empty i m, past i m));
+              size = λ i k. less_or i g (λ m. h.sizes i m) (λ m. rw (h.empty i m, past i m));
+            };
+        no_rows = h.no_rows;
       }
     where
-      before : (g : ℕ) → g ≤ i + 1 → (g ≡ suc i → ⊥) → g ≤ i
-      before g k e = omega (arith, k, e)
-
-      rest : row.size ≡ half s (at.homes + 2 + 4 * i + 2)
-          → drop (i + 1) (layout s (at.homes + 2) 1 n) ≡ layout s (at.homes + 2 + 4 * (i + 1)) (from + row.size) (n - (i + 1))
-      rest r =
-          let a : i + 1 ≡ suc i = omega arith in
-          let b : at.homes + 2 + 4 * suc i ≡ at.homes + 2 + 4 * i + 4 = omega arith in
-          let d : n - suc i ≡ n - i - 1 = omega arith in
-          rw (a, b, d, r) (drop_next (layout s (at.homes + 2) 1 n) i next)
-
--- All homes have their words.
-pub homes_all : (s : List ℕ) (at : Starts) (n i from : ℕ) (t : List ℕ) → n ≡ half s at.homes → n ≤ i → HomesTo s at n i from t → HomesDone s at t
-homes_all s at n i from t count l h =
-    record {
-      size = h.size;
-      homes =
-          record {
-            few = λ g k. most_or g i (λ m. omega (arith, h.fits, h.few, m)) (λ m. absurd (omega (arith, k, ap (λ (x : Home). x.size) (past g m))));
-            start = λ g k. most_or g i (λ m. h.starts g m) (λ m. rw (h.empty g m, past g m));
-            size = λ g k. most_or g i (λ m. h.sizes g m) (λ m. rw (h.empty g m, past g m));
-          };
-      no_rows = h.no_rows;
-    }
-  where
-    past : (g : ℕ) → i < g → home_at (routine s at).homes g ≡ no_home
-    past zero m = absurd (omega arith)
-    past (suc g) m = get_or-eq_default (layout s (at.homes + 2) 1 (half s at.homes)) no_home (omega (arith, layout_length s (at.homes + 2) 1 (half s at.homes), count, l))
-
--- ---- counts
-
-pub exprs_count : {s m t : List ℕ} {at : Starts} (n : ℕ) → n ≡ half s at.exprs → ExprsDone s at m n t → ExprsDone s at m (half s at.exprs) t
-exprs_count n e h = rw (← e) h
-
-pub commands_count : {s m t : List ℕ} {at : Starts} (n : ℕ) → n ≡ half s at.commands → CommandsDone s at m n t → CommandsDone s at m (half s at.commands) t
-commands_count n e h = rw (← e) h
+      past : (i : ℕ) → g ≤ i → home_at (routine s at).homes i ≡ no_home
+      past i m = get_or-eq_default (routine s at).homes no_home (omega (arith, homes_length s at))

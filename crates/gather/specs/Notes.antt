@@ -1,135 +1,99 @@
--- One conversion noted: in the lists if it is between references, as a seed if it makes a reference of an int.
-use Rattle.std.specs.Prelude.{◌≡◌, refl, Bool, true, ℕ, zero, suc, ◌+◌, ◌≤◌, ◌<◌, List, [], ◌∷◌, ◌++◌, length, set, take}
-use Rattle.std.proofs.Common.{sym, ap, ◌∙◌, not-suc-le-zero, add-one, arith, length-set, length-append, take-suc-set, length-take-le}
-use Rattle.std.proofs.Math.Decide.{dec_lt}
-use Rattle.std.proofs.Math.ListN.{get_or-append}
-use Rattle.std.proofs.lemmas.List.{get_or_at}
+-- A need noted: what it adds to the list of conversions, and to the seeds.
+use Rattle.std.specs.Prelude.{◌≡◌, true, ℕ, zero, suc, ◌≤◌, List, [], ◌∷◌, ◌++◌, length}
+use Rattle.std.specs.List.{All}
+use Rattle.std.proofs.Common.{not-suc-le-zero, arith}
+use Rattle.std.proofs.lemmas.List.Elements.{All-nil, All-cons, Contains-append_left, Contains-push}
+use Rattle.rules.specs.declared.Need.{Need}
+use Rattle.rules.specs.declared.Need.TheVariants.{Nothing, Moving, Converting}
+use Rattle.rules.specs.Table.{Routine}
+use Rattle.rules.specs.Kinds.{converts, need_met}
 use Rattle.rules.specs.Graph.{byte_of}
-use Rattle.raise.specs.Marks.{at, Below, below_same, kept, Raised}
-use Rattle.raise.specs.Demands.{Ref, Lists}
-use Rattle.gather.specs.Gathered.{Listed}
+use Rattle.laws.specs.Convert.{from_int, not_safe_byte}
+use Rattle.laws.specs.Needs.{NeedFits}
+use Rattle.raise.specs.declared.Conversion.{Conversion}
+use Rattle.raise.specs.Marks.{Below, kept}
+use Rattle.raise.specs.Demands.{Between}
+use Rattle.gather.specs.Gathered.{Listed, NeedListed}
 
--- Lists P and Q and marking m have become P', Q' and m', with the conversion of s to t noted.
-pub record Noted (P Q m : List ℕ) (s t : ℕ) (P' Q' m' : List ℕ) : Type 0 where
+-- The conversion between references that a need asks, if it does.
+abbrev pub asked : Need → List Conversion
+asked Nothing = []
+asked (Moving t) = []
+asked (Converting s zero) = []
+asked (Converting zero (suc t)) = []
+asked (Converting (suc s) (suc t)) = record { from = suc s; to = suc t } ∷ []
+
+-- The type that it asks to be SEQ at least; 0 for none.
+abbrev pub seed : Need → ℕ
+seed Nothing = 0
+seed (Moving t) = t
+seed (Converting s zero) = 0
+seed (Converting zero (suc t)) = suc t
+seed (Converting (suc s) (suc t)) = 0
+
+-- List C and marking m have become C' and m' with a need noted.
+pub record Noted (C : List Conversion) (m : List ℕ) (x : Need) (C' : List Conversion) (m' : List ℕ) : Type 0 where
+  pub listed : C' ≡ C ++ asked x
   pub size : length m' ≡ length m
   pub grows : Below m m'
-  pub listed : Listed P' Q' m' s t
-  pub before : (a b : ℕ) → Listed P Q m a b → Listed P' Q' m' a b
-  pub lists : (n : ℕ) → s ≤ n → t ≤ n → Lists n P Q → Lists n P' Q'
-  pub each : (e : ℕ → ℕ → Bool) → e s t ≡ true → ((j : ℕ) → j < length P → e (at P j) (at Q j) ≡ true) → (j : ℕ) → j < length P' → e (at P' j) (at Q' j) ≡ true
-  pub below : (w : List ℕ) → Below m w → (s ≡ 0 → 1 ≤ t → 1 ≤ byte_of w t) → Below m' w
+  pub gets : 1 ≤ seed x → 1 ≤ byte_of m' (seed x)
+  pub below : (w : List ℕ) → Below m w → (1 ≤ seed x → 1 ≤ byte_of w (seed x)) → Below m' w
 
--- To int: nothing to note.
-pub noted_none : {P Q m : List ℕ} {s t : ℕ} → t ≡ 0 → Noted P Q m s t P Q m
-noted_none {t = zero} e =
-    record {
-      size = refl;
-      grows = below_same;
-      listed = tt;
-      before = λ a b h. h;
-      lists = λ n h i l. l;
-      each = λ C c f. f;
-      below = λ w b h. b;
-    }
-noted_none {t = suc t} e = absurd (omega arith)
+-- ---- what is added, by what the need is
 
-pub listed_grows : (P Q : List ℕ) {m m' : List ℕ} → Below m m' → (a b : ℕ) → Listed P Q m a b → Listed P Q m' a b
-listed_grows P Q g a zero h = tt
-listed_grows P Q g zero (suc b) h = kept g (suc b) h
-listed_grows P Q g (suc a) (suc b) h = h
+pub asked_between : (n : ℕ) (x : Need) → NeedFits n x → All (Between n) (asked x)
+asked_between n Nothing f = All-nil (Between n)
+asked_between n (Moving t) f = All-nil (Between n)
+asked_between n (Converting s zero) f = All-nil (Between n)
+asked_between n (Converting zero (suc t)) f = All-nil (Between n)
+asked_between n (Converting (suc s) (suc t)) f =
+    All-cons (Between n) (record { from = suc s; to = suc t }) []
+    (record { from = record { low = omega arith; high = f.0 }; to = record { low = omega arith; high = f.1 } }) (All-nil (Between n))
 
--- From int: a seed.
-pub noted_seed : {P Q m m' : List ℕ} {s t : ℕ} → s ≡ 0 → 1 ≤ t → Raised m m' t 1 → Noted P Q m s t P Q m'
-noted_seed {s = suc s} e l r = absurd (omega arith)
-noted_seed {s = zero} {t = zero} e l r = absurd (not-suc-le-zero l)
-noted_seed {P} {Q} {s = zero} {t = suc t} e l r =
-    record {
-      size = r.size;
-      grows = r.grows;
-      listed = r.gets;
-      before = listed_grows P Q r.grows;
-      lists = λ n h i ls. ls;
-      each = λ C c f. f;
-      below = λ w b h. r.below w b (h refl l);
-    }
+pub asked_few : (x : Need) → length (asked x) ≤ 1
+asked_few Nothing = omega arith
+asked_few (Moving t) = omega arith
+asked_few (Converting s zero) = omega arith
+asked_few (Converting zero (suc t)) = omega arith
+asked_few (Converting (suc s) (suc t)) = omega arith
 
--- ---- one entry more at the end of both lists
+-- A marking that meets the need makes the conversion that is added, and has the seed at SEQ or above.
+module _ (r : Routine) (w : List ℕ) where
+  abbrev Made : Conversion → Type 0
+  Made c = converts r w c.from c.to ≡ true
 
-at_front : (P : List ℕ) (x j : ℕ) → j < length P → at (P ++ (x ∷ [])) j ≡ at P j
-at_front P x j l = get_or-append P (x ∷ []) 0 j l
+  pub asked_made : (x : Need) → need_met r w x ≡ true → All Made (asked x)
+  asked_made Nothing h = All-nil Made
+  asked_made (Moving t) h = All-nil Made
+  asked_made (Converting s zero) h = All-nil Made
+  asked_made (Converting zero (suc t)) h = All-nil Made
+  asked_made (Converting (suc s) (suc t)) h = All-cons Made (record { from = suc s; to = suc t }) [] h (All-nil Made)
 
-longer : (P : List ℕ) (x : ℕ) → length (P ++ (x ∷ [])) ≡ suc (length P)
-longer P x = length-append P (x ∷ []) ∙ omega arith
+  pub seed_met : (x : Need) → need_met r w x ≡ true → 1 ≤ seed x → 1 ≤ byte_of w (seed x)
+  unfolding converts
+  seed_met Nothing h l = absurd (not-suc-le-zero l)
+  seed_met (Moving t) h l = not_safe_byte w t h
+  seed_met (Converting s zero) h l = absurd (not-suc-le-zero l)
+  seed_met (Converting zero (suc t)) h l = from_int _ true h
+  seed_met (Converting (suc s) (suc t)) h l = absurd (not-suc-le-zero l)
 
-noted_pair : (P Q m : List ℕ) (s t : ℕ) → length Q ≡ length P → 1 ≤ s → 1 ≤ t → Noted P Q m s t (P ++ (s ∷ [])) (Q ++ (t ∷ [])) m
-noted_pair P Q m zero t e a b = absurd (not-suc-le-zero a)
-noted_pair P Q m (suc s) zero e a b = absurd (not-suc-le-zero b)
-noted_pair P Q m (suc s) (suc t) e a b =
-    record {
-      size = refl;
-      grows = below_same;
-      listed = record { index = length P; inside = omega (arith, longer P (suc s)); from = get_or_at P (suc s) [] 0 (length P) refl; to = get_or_at Q (suc t) [] 0 (length P) e };
-      before = before;
-      lists = λ n h i l.
-          record {
-            size = longer Q (suc t) ∙ (ap suc e ∙ sym (longer P (suc s)));
-            from = λ j k. each_of P (suc s) n a h (λ x y. l.from x y) j k (dec_lt j (length P));
-            to = λ j k. each_of Q (suc t) n b i (λ x y. l.to x (omega arith)) j (omega (arith, longer P (suc s), longer Q (suc t))) (dec_lt j (length Q));
-          };
-      each = λ C c f j k. each C c f j k (dec_lt j (length P));
-      below = λ w l h. l;
-    }
-  where
-    P' : List ℕ
-    P' = P ++ (suc s ∷ [])
+-- ---- what is listed
 
-    Q' : List ℕ
-    Q' = Q ++ (suc t ∷ [])
+module _ (C : List Conversion) (m' : List ℕ) where
+  pub need_listed : (n : ℕ) (x : Need) → NeedFits n x → (1 ≤ seed x → 1 ≤ byte_of m' (seed x)) → NeedListed (C ++ asked x) m' x
+  need_listed n Nothing f g = tt
+  need_listed n (Moving t) f g = g f.0
+  need_listed n (Converting s zero) f g = tt
+  need_listed n (Converting zero (suc t)) f g = g (omega arith)
+  need_listed n (Converting (suc s) (suc t)) f g = Contains-push C (record { from = suc s; to = suc t })
 
-    before : (x y : ℕ) → Listed P Q m x y → Listed P' Q' m x y
-    before x zero h = tt
-    before zero (suc y) h = h
-    before (suc x) (suc y) h =
-        record {
-          index = h.index;
-          inside = omega (arith, longer P (suc s), h.inside);
-          from = at_front P (suc s) h.index h.inside ∙ h.from;
-          to = at_front Q (suc t) h.index (omega (arith, h.inside)) ∙ h.to;
-        }
+  module _ (D : List Conversion) {m : List ℕ} (g : Below m m') where
+    listed_kept : (s t : ℕ) → Listed C m s t → Listed (C ++ D) m' s t
+    listed_kept s zero h = tt
+    listed_kept zero (suc t) h = kept g (suc t) h
+    listed_kept (suc s) (suc t) h = Contains-append_left C D (record { from = suc s; to = suc t }) h
 
-    -- The new entry, or one of those before.
-    each_of : (L : List ℕ) (x n : ℕ) → 1 ≤ x → x ≤ n → ((j : ℕ) → j < length L → Ref n (at L j)) → (j : ℕ) → j < length (L ++ (x ∷ []))
-        → Dec (j < length L) → Ref n (at (L ++ (x ∷ [])) j)
-    each_of L x n low high f j k (yes q) = rw (at_front L x j q) (f j q)
-    each_of L x n low high f j k (no q) =
-        let z : length L ≡ j = omega (arith, longer L x) in rw (get_or_at L x [] 0 j z) (record { low = low; high = high })
-
-    each : (C : ℕ → ℕ → Bool) → C (suc s) (suc t) ≡ true → ((j : ℕ) → j < length P → C (at P j) (at Q j) ≡ true) → (j : ℕ) → j < length P'
-        → Dec (j < length P) → C (at P' j) (at Q' j) ≡ true
-    each C c f j k (yes q) = rw (at_front P (suc s) j q, at_front Q (suc t) j (omega arith)) (f j q)
-    each C c f j k (no q) =
-        let z : length P ≡ j = omega (arith, longer P (suc s)) in rw (get_or_at P (suc s) [] 0 j z, get_or_at Q (suc t) [] 0 j (e ∙ z)) c
-
--- ---- the same of two arrays with n entries used
-
--- Arrays F and G with n entries used have become F' and G' with k.
-pub record NotedIn (F G m : List ℕ) (n s t k : ℕ) (F' G' m' : List ℕ) : Type 0 where
-  pub noted : Noted (take n F) (take n G) m s t (take k F') (take k G') m'
-  pub count : k ≤ n + 1
-  pub from : length F' ≡ length F
-  pub to : length G' ≡ length G
-
--- Nothing is listed.
-pub unlisted : (F G : List ℕ) (n : ℕ) {m m' : List ℕ} {s t : ℕ} → Noted (take n F) (take n G) m s t (take n F) (take n G) m' → NotedIn F G m n s t n F G m'
-unlisted F G n d = record { noted = d; count = omega arith; from = refl; to = refl }
-
-pub noted_push : (F G m : List ℕ) (n s t : ℕ) → n < length F → n < length G → 1 ≤ s → 1 ≤ t → NotedIn F G m n s t (n + 1) (set F n s) (set G n t) m
-noted_push F G m n s t a b c d =
-    record {
-      noted =
-          rw (add-one n, take-suc-set F n s a, take-suc-set G n t b)
-          (noted_pair (take n F) (take n G) m s t (length-take-le n G (omega arith) ∙ sym (length-take-le n F (omega arith))) c d);
-      count = omega arith;
-      from = length-set F n s;
-      to = length-set G n t;
-    }
+    pub need_kept : (x : Need) → NeedListed C m x → NeedListed (C ++ D) m' x
+    need_kept Nothing h = tt
+    need_kept (Moving t) h = kept g t h
+    need_kept (Converting s t) h = listed_kept s t h

@@ -6,6 +6,7 @@ use Rattle.std.proofs.Math.Bool.{true}
 use Prim.Native.Nat.{ℕ, zero, suc, ◌≤◌, ◌<◌}
 use Rattle.std.proofs.Math.Decide.{dec_lt}
 use Rattle.std.proofs.lemmas.List.{get_or-replicate}
+use Rattle.std.proofs.lemmas.List.Elements.{All-contains}
 use Rattle.rules.specs.Basic.{choose}
 use Rattle.rules.specs.declared.Need.{Need}
 use Rattle.rules.specs.declared.Need.TheVariants.{Nothing, Moving, Converting}
@@ -19,7 +20,8 @@ use Rattle.laws.specs.Values.{target_le}
 use Rattle.laws.specs.Formed.{Formed}
 use Rattle.laws.specs.Dynamic.{all_acceptable}
 use Rattle.raise.specs.Marks.{at, Below, kept}
-use Rattle.raise.specs.Demands.{Ref}
+use Rattle.raise.specs.declared.Conversion.{Conversion}
+use Rattle.raise.specs.Demands.{Ref, Between}
 use Rattle.links.specs.Plain.{plain}
 use Rattle.gather.specs.Gathered.{Listed, NeedListed, Targets, Gathered}
 use Rattle.infer.specs.Tables.{Suits, LeastAbove, past}
@@ -70,24 +72,23 @@ conv_ref r m (suc s) (suc t) a b h = conv_of r m s t h
 
 -- ---- the least marking
 
-module _ {r : Routine} (f : Formed r) {T F G m₀ : List ℕ} (g : Gathered r T F G m₀) where
+module _ {r : Routine} (f : Formed r) {T : List ℕ} {C : List Conversion} {m₀ : List ℕ} (g : Gathered r T C m₀) where
   -- An acceptable marking suits the tables.
-  acceptable_suits : {w : List ℕ} → Acceptable r w → Suits r.types T F G w
+  acceptable_suits : {w : List ℕ} → Acceptable r w → Suits r.types T C w
   acceptable_suits {w} a =
       record {
         spread = λ t h i e. spread t h i e (dec_lt t r.types);
-        convs = λ j l.
-            let x = g.lists.from j l in
-            let y = g.lists.to j l in
-            conv_plain f g.table x y (conv_ref r w (at F j) (at G j) x.low y.low ((g.follows w a).convs j l));
+        convs = λ k d l.
+            let b = g.listed k d l in
+            conv_plain f g.table b.from b.to (conv_ref r w (get_or C k d).from (get_or C k d).to b.from.low b.to.low ((g.follows w a).convs k d l));
       }
     where
       spread : (t : ℕ) → 2 ≤ get_or w t 0 → (i : ℕ) → at T (suc t) ≡ suc i → Dec (t < r.types) → 2 ≤ get_or w i 0
       spread t h i e (yes l) = spread_of a t h i (sym (target_at f g.table t l) ∙ e)
       spread t h i e (no n) = absurd (omega (arith, past w t (omega (arith, a.size))))
 
-  module _ {m : List ℕ} (low : LeastAbove T F G m₀ m) where
-    suits : Suits r.types T F G m
+  module _ {m : List ℕ} (low : LeastAbove T C m₀ m) where
+    suits : Suits r.types T C m
     suits = rw g.size at low.suits
 
     lowest : {w : List ℕ} → Acceptable r w → Below m w
@@ -96,18 +97,17 @@ module _ {r : Routine} (f : Formed r) {T F G m₀ : List ℕ} (g : Gathered r T 
     seed : (t : ℕ) → 1 ≤ byte_of m₀ t → 1 ≤ byte_of m t
     seed t h = kept low.above t h
 
-    converted : (s t : ℕ) → Listed F G m₀ s t → converts r m s t ≡ true
+    converted : (s t : ℕ) → Listed C m₀ s t → converts r m s t ≡ true
     unfolding converts
     converted zero zero h = refl
     converted (suc s) zero h = any_to_int (get_or m s 0) _
     converted zero (suc t) h = int_from (get_or m t 0) true (seed (suc t) h)
     converted (suc s) (suc t) h =
-        let j = h.index in
-        let l = h.inside in
-        let c : Conv r m (at F j) (at G j) = plain_conv f g.table (g.lists.from j l) (g.lists.to j l) (suits.convs j l) in
-        of_conv r m s t (rw h.to at (rw h.from at c))
+        let d : Conversion = record { from = suc s; to = suc t } in
+        let b = All-contains (Between r.types) C d g.listed h in
+        of_conv r m s t (plain_conv f g.table b.from b.to (All-contains (λ x. Conv (plain r.types T) m x.from x.to) C d suits.convs h))
 
-    need_met_lem : (x : Need) → NeedListed F G m₀ x → need_met r m x ≡ true
+    need_met_lem : (x : Need) → NeedListed C m₀ x → need_met r m x ≡ true
     need_met_lem Nothing h = refl
     need_met_lem (Moving t) h = byte_not_safe m t (seed t h)
     need_met_lem (Converting s t) h = converted s t h

@@ -2,6 +2,7 @@
 -- Equality of types down to depth d only is an equivalence for each d, so that it holds along the links by induction on d; targets fall, so that
 -- as many levels as there are types are all of it.
 use Rattle.std.specs.Prelude.{◌≡◌, Bool, ◌&&◌, List, get_or}
+use Rattle.std.specs.List.{All}
 use Rattle.std.proofs.Math.Path.{refl}
 use Rattle.std.proofs.Common.{◌∙◌, not-suc-le-zero, arith}
 use Rattle.std.proofs.Math.Bool.{true}
@@ -15,7 +16,8 @@ use Rattle.laws.specs.Convert.{kinds_equal, Conv, Spread}
 use Rattle.rules.specs.Graph.{byte_of}
 use Rattle.laws.specs.Same.{same_kind_refl, same_kind_eq}
 use Rattle.raise.specs.Marks.{at, Below, below_trans}
-use Rattle.raise.specs.Demands.{Falls, Lists, Edge, Level, Outer, Whole}
+use Rattle.raise.specs.declared.Conversion.{Conversion}
+use Rattle.raise.specs.Demands.{Falls, Between, Edge, Level, Outers, Whole}
 use Rattle.raise.specs.Moves.{Rests}
 use Rattle.links.specs.Plain.{plain, Equal, same_level, conv_lower}
 use Rattle.links.specs.Links.{Along, Down, Good, Joined}
@@ -109,8 +111,8 @@ module _ (T m : List ℕ) where
 
 -- ---- what is at rest
 
-module _ {T F G m₀ p m₁ m : List ℕ} (f : Falls T) (ls : Lists (length m₀) F G) (j : Joined T F G m₀ (length F) p m₁) (g : Below m₁ m)
-    (e : length m ≡ length m₀) (w : Whole (length m₀) T p F G m) where
+module _ {T : List ℕ} {C : List Conversion} {m₀ p m₁ m : List ℕ} (f : Falls T) (ls : All (Between (length m₀)) C) (j : Joined T C m₀ p m₁) (g : Below m₁ m)
+    (e : length m ≡ length m₀) (w : Whole (length m₀) T p C m) where
   rest_down : {s t : ℕ} → Down T p m₁ 0 0 s t → Down T p m 0 0 s t
   rest_down d = record { joined = d.joined; left = λ z i. dynamic_kept g (d.left z i); right = λ i z. dynamic_kept g (d.right i z) }
 
@@ -122,29 +124,30 @@ module _ {T F G m₀ p m₁ m : List ℕ} (f : Falls T) (ls : Lists (length m₀
           let q : 2 ≤ byte_of m (at T (suc t)) = (w.rows.each (suc t) (record { low = omega arith; high = omega arith })).down.goes (omega arith) h in rw z at q
       go (no n) = absurd (omega (arith, past m t (omega arith)))
 
-  rest_conv : (x : ℕ) → x < length F → Conv (plain (length m₀) T) m (at F x) (at G x)
+  rest_conv : All (λ c. Conv (plain (length m₀) T) m c.from c.to) C
   unfolding same
-  rest_conv x l =
-      let o = w.outers.each x l in
+  rest_conv k d l =
+      let o = w.outers.each k d l in
       let n = length m₀ in
-      let a = (ls.from x l).low in
-      let c = (ls.to x l).low in
+      let b = ls k d l in
+      let s = (get_or C k d).from in
+      let t = (get_or C k d).to in
       record {
-        back_one = o.back.one.goes a;
-        back_two = o.back.two.goes a;
-        forth_two = o.forth.goes c;
-        targets = λ k.
-            alike_same T m n f (suc n) (at T (at F x)) (at T (at G x)) (omega (arith, f.by (at F x) a, (ls.from x l).high))
+        back_one = o.back.one.goes b.from.low;
+        back_two = o.back.two.goes b.from.low;
+        forth_two = o.forth.goes b.to.low;
+        targets = λ h.
+            alike_same T m n f (suc n) (at T s) (at T t) (omega (arith, f.by s b.from.low, b.from.high))
             (down_equal T m (alike_equal T m (suc n))
             (alike_along T m (λ y q. let r = j.within.each y q in (r.low, (w.rows.each y r).level)) (λ y q. rest_down (j.closed y q)) (suc n))
-            (rest_down (j.done x l)) k);
+            (rest_down (j.done k d l)) h);
       }
 
 -- ---- what a suitable marking meets while kinds are raised
 
-module _ {T F G m₀ p m₁ w : List ℕ} (j : Joined T F G m₀ (length F) p m₁) (a : Suits (length m₀) T F G w) (b : Below m₀ w) where
+module _ {T : List ℕ} {C : List Conversion} {m₀ p m₁ w : List ℕ} (j : Joined T C m₀ p m₁) (a : Suits (length m₀) T C w) (b : Below m₀ w) where
   suits_good : Good (length m₀) T p m₁ w 0 0
-  suits_good = j.sound w a.spread b (λ x l. conv_lower (a.convs x l))
+  suits_good = j.sound w a.spread b (λ k d l. conv_lower (a.convs k d l))
 
   suits_down : (x t : ℕ) → 1 ≤ x → at T x ≡ t → Edge w x t 2
   suits_down zero t l e = absurd (not-suc-le-zero l)
@@ -159,23 +162,26 @@ module _ {T F G m₀ p m₁ w : List ℕ} (j : Joined T F G m₀ (length F) p m�
       }
   suits_level x (suc t) e = rw e at (same_level (length m₀) T w x (at p x) (suits_good.along.each x (omega arith)))
 
-  suits_outer : (x : ℕ) → x < length F → Outer w (at F x) (at G x)
-  suits_outer x l =
-      let c = a.convs x l in
-      record { back = record { one = record { goes = λ i. c.back_one }; two = record { goes = λ i. c.back_two } }; forth = record { goes = λ i. c.forth_two } }
+  suits_outers : Outers C w
+  suits_outers =
+      record {
+        each = λ k d l.
+            let c = a.convs k d l in
+            record { back = record { one = record { goes = λ i. c.back_one }; two = record { goes = λ i. c.back_two } }; forth = record { goes = λ i. c.forth_two } };
+      }
 
-  suits_whole : Whole (length m₀) T p F G w
+  suits_whole : Whole (length m₀) T p C w
   suits_whole =
       record {
         rows = record { each = λ x r. record { level = suits_level x (at p x) refl; down = suits_down x (at T x) r.low refl } };
-        outers = record { each = suits_outer };
+        outers = suits_outers;
       }
 
-pub least_above : {n k : ℕ} {T F G m₀ p m₁ m : List ℕ} → n ≡ length m₁ → k ≡ length m₀ → Falls T → Lists k F G
-    → Joined T F G m₀ (length F) p m₁ → Rests n T p F G m₁ m → LeastAbove T F G m₀ m
-least_above {T = T} {F} {G} {m₀} {p} {m₁} {m} h i f ls j rests =
-    let ls' : Lists (length m₀) F G = rw i at ls in
-    let q : Rests (length m₀) T p F G m₁ m = rw (h ∙ j.size) at rests in
+pub least_above : {n k : ℕ} {T : List ℕ} {C : List Conversion} {m₀ p m₁ m : List ℕ} → n ≡ length m₁ → k ≡ length m₀ → Falls T → All (Between k) C
+    → Joined T C m₀ p m₁ → Rests n T p C m₁ m → LeastAbove T C m₀ m
+least_above {T = T} {C} {m₀} {p} {m₁} {m} h i f ls j rests =
+    let ls' : All (Between (length m₀)) C = rw i at ls in
+    let q : Rests (length m₀) T p C m₁ m = rw (h ∙ j.size) at rests in
     let g = q.raises.grows in
     let e : length m ≡ length m₀ = q.raises.size ∙ j.size in
     record {

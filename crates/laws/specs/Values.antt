@@ -9,7 +9,9 @@ use Rattle.rules.specs.declared.Kind.{Kind}
 use Rattle.rules.specs.declared.Kind.TheVariants.{int, SAFE, SEQ, DYNAMIC}
 use Rattle.rules.specs.Kinds.{kind, same, deep, kind_converts, targets_matter, spreads, not_safe}
 use Rattle.rules.specs.Memory.{State, held, cell}
-use Rattle.rules.specs.Ruled.{Check, check2, must, Ruled, gives, fails, onward}
+use Rattle.rules.specs.declared.Check.{Check}
+use Rattle.rules.specs.declared.Check.TheVariants.{Bounds}
+use Rattle.rules.specs.Ruled.{must, Ruled, gives, fails, onward}
 use Rattle.rules.specs.Values.{convert, reach, reach_safe, fetched, operated, moved, home_value, null_value, truth}
 use Rattle.rules.specs.Operators.{applied, bit}
 use Rattle.rules.specs.Valid.{In, Real, Typed, Untyped, Points, ValidAt, number, address, pair, wild_pair, Valid, ValidState}
@@ -125,7 +127,7 @@ module _ {r : Routine} {m : List ℕ} {w : State} (ok : ValidState r m w) where
   convert_ok DYNAMIC k h (address y) = false_true k
   convert_ok int k h (pair y l) = holds (number (mod-lt _ (lit< tt)))
   convert_ok SAFE k h (pair {g = g} {n = n} y l) =
-      ok_must check2 (ltb n (home_at w.homes g).size) (λ i. holds (address (narrowed (typed_same h y) (ltb-true _ _ i))))
+      ok_must Bounds (ltb n (home_at w.homes g).size) (λ i. holds (address (narrowed (typed_same h y) (ltb-true _ _ i))))
   convert_ok SEQ k h (pair y l) = holds (pair (typed_same h y) l)
   convert_ok DYNAMIC k h (pair y l) = false_true k
   convert_ok int k h (wild_pair y l) = holds (number (mod-lt _ (lit< tt)))
@@ -156,7 +158,7 @@ module _ {r : Routine} {m : List ℕ} {w : State} (ok : ValidState r m w) where
   reach_ok n (wild_pair {g = zero} y l) = check_fails
   reach_ok n (wild_pair {g = suc g} (inl e) l) = absurd (omega arith)
   reach_ok n (wild_pair {g = suc g} {n = k} (inr y) l) =
-      ok_must check2 (ltb k (home_at w.homes (suc g)).size) (λ i. wild_ok y (address_in y.real (ltb-true _ _ i)))
+      ok_must Bounds (ltb k (home_at w.homes (suc g)).size) (λ i. wild_ok y (address_in y.real (ltb-true _ _ i)))
 
   -- ---- reading a cell
 

@@ -1,13 +1,17 @@
 -- Laws of links: one step down, one turn, turns in sequence, conversions in sequence.
-use Rattle.std.specs.Prelude.{◌≡◌, refl, ◌⊎◌, Bool, true, ℕ, ◌+◌, ◌≤◌, ◌<◌, List, length, set, replicate}
+use Rattle.std.specs.Prelude.{◌≡◌, refl, ◌⊎◌, Bool, true, ℕ, ◌≤◌, ◌<◌, List, [], ◌∷◌, ◌++◌, length, set, replicate, max, min}
+use Rattle.std.specs.List.{All}
 use Rattle.std.proofs.Common.{sym, ap, ◌∙◌, inl, inr, not-suc-le-zero, le_trans, arith, length-set, get_or-set_same}
-use Rattle.std.proofs.Math.Decide.{ℕ_discrete, dec_lt}
+use Rattle.std.proofs.Math.Decide.{dec_lt}
+use Rattle.std.proofs.Math.Seq.{take-append_seam}
 use Rattle.std.proofs.lemmas.List.{length-replicate}
+use Rattle.std.proofs.lemmas.List.Elements.{All-push, All-weaker, All-take, All-contains, Contains-push}
 use Rattle.rules.specs.Kinds.{same}
 use Rattle.rules.specs.Graph.{byte_of}
 use Rattle.laws.specs.Convert.{Spread}
 use Rattle.laws.specs.Same.{reflexive, symmetric}
 use Rattle.raise.specs.Marks.{at, zeros, AtSet, here, other, at_set, Below, below_same, below_trans, kept, Raised}
+use Rattle.raise.specs.declared.Conversion.{Conversion}
 use Rattle.raise.specs.Demands.{Falls, Ref, Tables}
 use Rattle.links.specs.Plain.{plain, Equal, same_equal, dynamic_same, int_alone, spread_at, Lower, same_lower}
 use Rattle.links.specs.Links.{Within, Along, BothDynamic, Down, Good, Next, Stepped, Linked, Turned, Joined}
@@ -151,7 +155,7 @@ linked_swap : {n : ℕ} {T p m : List ℕ} {a b : ℕ} → Linked n T p m a b p 
 linked_swap {n} {T} {a = a} {b = b} = on_with (λ e q o h. q.turned b a h) (λ w g. symmetric (plain n T) w a b g.pair)
 
 -- a is linked already: on with what it is linked to, and b.
-pub turn_follow : (n : ℕ) (T p m : List ℕ) (a b : ℕ) → Falls p → 1 ≤ b → b < a → (at p a ≡ 0 → ⊥) → Turned n T p m a b p m (at p a) b
+turn_follow : (n : ℕ) (T p m : List ℕ) (a b : ℕ) → Falls p → 1 ≤ b → b < a → (at p a ≡ 0 → ⊥) → Turned n T p m a b p m (at p a) b
 turn_follow n T p m a b f l k z =
     let q : 1 ≤ at p a = omega arith in
     record {
@@ -164,7 +168,7 @@ turn_follow n T p m a b f l k z =
     }
 
 -- a is linked to b now: on with their targets.
-pub turn_link : (n : ℕ) (T p m : List ℕ) (a b : ℕ) {m' : List ℕ} {a' b' : ℕ} → Falls T → 1 ≤ b → b < a → a ≤ n → a < length p → at p a ≡ 0
+turn_link : (n : ℕ) (T p m : List ℕ) (a b : ℕ) {m' : List ℕ} {a' b' : ℕ} → Falls T → 1 ≤ b → b < a → a ≤ n → a < length p → at p a ≡ 0
     → Stepped n T m a b m' a' b' → Turned n T p m a b (set p a b) m' a' b'
 turn_link n T p m a b {m'} {a'} {b'} f l k ln lp z s =
     record {
@@ -227,7 +231,7 @@ pub record Linking (T p₀ m₀ : List ℕ) (a₀ b₀ : ℕ) (p m : List ℕ) (
   pub high_b : b ≤ length m₀
   pub refs : (a ≡ b → ⊥) → (1 ≤ a) × (1 ≤ b)
 
-pub linking_more : {n : ℕ} {T p₀ m₀ : List ℕ} {a₀ b₀ : ℕ} {p m : List ℕ} {a b : ℕ} {p' m' : List ℕ} {a' b' : ℕ} → n ≡ length m₀
+linking_more : {n : ℕ} {T p₀ m₀ : List ℕ} {a₀ b₀ : ℕ} {p m : List ℕ} {a b : ℕ} {p' m' : List ℕ} {a' b' : ℕ} → n ≡ length m₀
     → Linking T p₀ m₀ a₀ b₀ p m a b → Turned n T p m a b p' m' a' b' → Linking T p₀ m₀ a₀ b₀ p' m' a' b'
 linking_more {T = T} {m₀ = m₀} {p = p} {m = m} {a = a} {b = b} {p' = p'} {m' = m'} {a' = a'} {b' = b'} e l t =
     let u : Turned (length m₀) T p m a b p' m' a' b' = rw e at t in
@@ -247,6 +251,16 @@ linking_swap l =
       refs = λ n. let (x, y) = l.refs (λ e. n (sym e)) in (y, x);
     }
 
+-- The higher of the two first.
+linking_order : {T p₀ m₀ : List ℕ} {a₀ b₀ : ℕ} {p m : List ℕ} {a b h l : ℕ} → h ≡ max a b → l ≡ min a b → Linking T p₀ m₀ a₀ b₀ p m a b
+    → Linking T p₀ m₀ a₀ b₀ p m h l
+linking_order {T} {p₀} {m₀} {a₀} {b₀} {p} {m} {a} {b} {h} {l} e f k = go (dec_lt a b)
+  where
+    go : Dec (a < b) → Linking T p₀ m₀ a₀ b₀ p m h l
+    go (yes q) = let u : h ≡ b = omega arith in let v : l ≡ a = omega arith in rw (u, v) (linking_swap k)
+    go (no q) = let u : h ≡ a = omega arith in let v : l ≡ b = omega arith in rw (u, v) k
+
+-- The tables are large enough still.
 pub linking_tables : {n k : ℕ} {T p₀ m₀ : List ℕ} {a₀ b₀ : ℕ} {p m : List ℕ} {a b : ℕ} → n ≡ k → k ≡ length m₀ → Tables k T p₀
     → Linking T p₀ m₀ a₀ b₀ p m a b → Tables n T p
 linking_tables e h t l =
@@ -257,29 +271,51 @@ linking_tables e h t l =
       linked = l.linked.falls t.linked;
     }
 
+-- A turn: the higher of the two is linked to the lower, or goes on as what it is linked to.
+module _ {T p₀ m₀ : List ℕ} {a₀ b₀ : ℕ} {p m : List ℕ} {a b h l i : ℕ} (t : Tables (length m₀) T p₀) (n : a ≡ b → ⊥) (e : h ≡ max a b) (f : l ≡ min a b) (k : i ≡ h)
+    (g : Linking T p₀ m₀ a₀ b₀ p m a b) where
+  low : 1 ≤ l
+  low = omega (arith, (g.refs n).0, (g.refs n).1)
+
+  less : l < h
+  less = omega arith
+
+  high : h ≤ length m
+  high = omega (arith, g.high_a, g.high_b, g.linked.size)
+
+  pub linking_link : {m' : List ℕ} {a' b' : ℕ} → at p i ≡ 0 → Stepped (length m) T m h l m' a' b' → Linking T p₀ m₀ a₀ b₀ (set p i l) m' a' b'
+  linking_link z s =
+      rw k
+      (linking_more g.linked.size (linking_order e f g)
+      (turn_link (length m) T p m h l t.low low less high (omega (arith, t.links, g.linked.links, g.linked.size, high)) (rw k at z) s))
+
+  pub linking_follow : (at p i ≡ 0 → ⊥) → Linking T p₀ m₀ a₀ b₀ p m (at p i) l
+  linking_follow z =
+      rw k (linking_more g.linked.size (linking_order e f g) (turn_follow (length m) T p m h l (g.linked.falls t.linked) low less (rw k at z)))
+
 -- ---- conversions in sequence
 
-pub joined_none : {T F G m p : List ℕ} → ((x : ℕ) → at p x ≡ 0) → Joined T F G m 0 p m
+pub joined_none : {T m p : List ℕ} → ((x : ℕ) → at p x ≡ 0) → Joined T [] m p m
 joined_none {T} {m = m} z =
     record {
       size = refl;
       falls = record { by = λ x l. rw (z x) l };
       within = record { each = λ x l. absurd (omega (arith, z x)) };
       grows = below_same;
-      done = λ j l. absurd (not-suc-le-zero l);
+      done = λ k d l. absurd (not-suc-le-zero l);
       closed = λ x l. absurd (omega (arith, z x));
       sound = λ w d b h. record { below = b; along = record { each = λ x l. absurd (omega (arith, z x)) }; pair = reflexive (plain (length m) T) w 0 };
     }
 
-pub joined_more : {T F G m₀ : List ℕ} {i : ℕ} {p m m₁ : List ℕ} {a b : ℕ} {p' m' : List ℕ} {k₀ k₁ : ℕ} → k₀ ≡ length m → k₁ ≡ length m₁
-    → Joined T F G m₀ i p m → Stepped k₀ T m (at F i) (at G i) m₁ a b → Linked k₁ T p m₁ a b p' m' 0 0 → Joined T F G m₀ (i + 1) p' m'
-joined_more {T} {F} {G} {m₀} {i} {p} {m} {m₁} {a} {b} {p'} {m'} e₀ e₁ j s k =
+pub joined_more : {T : List ℕ} {C : List Conversion} {c : Conversion} {m₀ p m m₁ : List ℕ} {a b : ℕ} {p' m' : List ℕ} {k₀ k₁ : ℕ} → k₀ ≡ length m → k₁ ≡ length m₁
+    → Joined T C m₀ p m → Stepped k₀ T m c.from c.to m₁ a b → Linked k₁ T p m₁ a b p' m' 0 0 → Joined T (C ++ c ∷ []) m₀ p' m'
+joined_more {T} {C} {c} {m₀} {p} {m} {m₁} {a} {b} {p'} {m'} e₀ e₁ j s k =
     record {
       size = k.size ∙ (s.size ∙ j.size);
       falls = k.falls j.falls;
       within = linked.within j.within;
       grows = below_trans j.grows grown;
-      done = λ x l. done x l (ℕ_discrete x i);
+      done = All-push (λ x. Down T p' m' 0 0 x.from x.to) C c (All-weaker (λ x. Down T p m 0 0 x.from x.to) (λ x. Down T p' m' 0 0 x.from x.to) (λ x d. down_kept keeps grown d) C j.done) (down_kept k.keeps k.grows (s.fresh p));
       closed = λ x l. closed x l (k.closed x l);
       sound = sound;
     }
@@ -291,27 +327,24 @@ joined_more {T} {F} {G} {m₀} {i} {p} {m} {m₁} {a} {b} {p'} {m'} e₀ e₁ j 
     keeps : (e : ℕ → ℕ → Bool) → Equal e → Along e p' → e 0 0 ≡ true → Along e p × (e 0 0 ≡ true)
     keeps e q o h = ((k.keeps e q o h).0, h)
 
-    done : (x : ℕ) → x < i + 1 → Dec (x ≡ i) → Down T p' m' 0 0 (at F x) (at G x)
-    done x l (yes e) = rw e (down_kept k.keeps k.grows (s.fresh p))
-    done x l (no n) = down_kept keeps grown (j.done x (omega arith))
-
     closed : (x : ℕ) → 1 ≤ at p' x → (at p' x ≡ at p x) ⊎ Down T p' m' 0 0 x (at p' x) → Down T p' m' 0 0 x (at p' x)
     closed x l (inl e) = rw e (down_kept keeps grown (j.closed x (rw e at l)))
     closed x l (inr d) = d
 
-    stepped : Stepped (length m₀) T m (at F i) (at G i) m₁ a b
+    stepped : Stepped (length m₀) T m c.from c.to m₁ a b
     stepped = rw (e₀ ∙ j.size) at s
 
     linked : Linked (length m₀) T p m₁ a b p' m' 0 0
     linked = rw (e₁ ∙ (s.size ∙ j.size)) at k
 
-    sound : (w : List ℕ) → Spread (plain (length m₀) T) w → Below m₀ w → ((x : ℕ) → x < i + 1 → Lower (length m₀) T w (at F x) (at G x)) → Good (length m₀) T p' m' w 0 0
+    sound : (w : List ℕ) → Spread (plain (length m₀) T) w → Below m₀ w → All (λ x. Lower (length m₀) T w x.from x.to) (C ++ c ∷ []) → Good (length m₀) T p' m' w 0 0
     sound w d l h =
-        let g = j.sound w d l (λ x q. h x (omega arith)) in
-        let (u, v) = stepped.sound w d g.below (h i (omega arith)) in
+        let f : All (λ x. Lower (length m₀) T w x.from x.to) C = rw (take-append_seam C (c ∷ [])) at (All-take (λ x. Lower (length m₀) T w x.from x.to) (length C) (C ++ c ∷ []) h) in
+        let g = j.sound w d l f in
+        let (u, v) = stepped.sound w d g.below (All-contains (λ x. Lower (length m₀) T w x.from x.to) (C ++ c ∷ []) c h (Contains-push C c)) in
         linked.sound w d (record { below = u; along = g.along; pair = v })
 
-pub joined_tables : {T F G m₀ p₀ p m : List ℕ} {i n k : ℕ} → n ≡ length m → length p ≡ length p₀ → k ≡ length m₀ → Tables k T p₀ → Joined T F G m₀ i p m → Tables n T p
+pub joined_tables : {T : List ℕ} {C : List Conversion} {m₀ p₀ p m : List ℕ} {n k : ℕ} → n ≡ length m → length p ≡ length p₀ → k ≡ length m₀ → Tables k T p₀ → Joined T C m₀ p m → Tables n T p
 joined_tables e l h t j =
     record {
       targets = omega (arith, t.targets, j.size);
@@ -319,9 +352,6 @@ joined_tables e l h t j =
       low = t.low;
       linked = j.falls;
     }
-
-pub joined_end : {T F G m₀ : List ℕ} {i k : ℕ} {p m : List ℕ} → i ≤ k → k ≤ i → Joined T F G m₀ i p m → Joined T F G m₀ k p m
-joined_end {i = i} {k = k} a b j = let e : i ≡ k = omega arith in rw e at j
 
 -- ---- no links yet
 

@@ -1,9 +1,11 @@
 -- What linking promises. Type x is linked to the lower type p[x], or to none (0).
 -- "Linked" is said by every equivalence at once: one that holds along all links holds of the pair.
 use Rattle.std.specs.Prelude.{◌≡◌, ◌⊎◌, Bool, true, ℕ, ◌≤◌, ◌<◌, List, length}
+use Rattle.std.specs.List.{All}
 use Rattle.rules.specs.Kinds.{same}
 use Rattle.rules.specs.Graph.{byte_of}
 use Rattle.laws.specs.Convert.{Spread}
+use Rattle.raise.specs.declared.Conversion.{Conversion}
 use Rattle.raise.specs.Marks.{at, Below}
 use Rattle.raise.specs.Demands.{Falls, Ref}
 use Rattle.links.specs.Plain.{plain, Equal, Lower}
@@ -65,14 +67,13 @@ pub record Turned (n : ℕ) (T p m : List ℕ) (a b : ℕ) (p' m' : List ℕ) (a
   pub small_b : b' < a
   pub next : Next a' b'
 
--- The first i conversions are linked.
-pub record Joined (T F G m₀ : List ℕ) (i : ℕ) (p m : List ℕ) : Type 0 where
+-- The conversions are linked.
+pub record Joined (T : List ℕ) (C : List Conversion) (m₀ p m : List ℕ) : Type 0 where
   pub size : length m ≡ length m₀
   pub falls : Falls p
   pub within : Within (length m₀) p
   pub grows : Below m₀ m
-  pub done : (j : ℕ) → j < i → Down T p m 0 0 (at F j) (at G j)
+  pub done : All (λ c. Down T p m 0 0 c.from c.to) C
   pub closed : (x : ℕ) → 1 ≤ at p x → Down T p m 0 0 x (at p x)
-  pub sound : (w : List ℕ) → Spread (plain (length m₀) T) w → Below m₀ w
-      → ((j : ℕ) → j < i → Lower (length m₀) T w (at F j) (at G j))
+  pub sound : (w : List ℕ) → Spread (plain (length m₀) T) w → Below m₀ w → All (λ c. Lower (length m₀) T w c.from c.to) C
       → Good (length m₀) T p m w 0 0

@@ -2,89 +2,65 @@
 #![tactic(auto)]
 
 ghost use Rattle.std.specs.Prelude.{◌≡◌, ℕ, ◌≤◌, ◌<◌, length};
+ghost use Rattle.std.specs.List.{All};
 ghost use Rattle.raise.specs.Marks.{at};
-ghost use Rattle.raise.specs.Demands.{Falls, Ref, Tables, Lists};
-ghost use Rattle.links.specs.Links.{Stepped, Linked, Turned, Joined};
+ghost use Rattle.raise.specs.Demands.{Falls, Ref, Between, Tables};
+ghost use Rattle.links.specs.Links.{Stepped, Linked, Joined};
 
-use raise::at_least;
+use raise::{Conversion, DYNAMIC, at_least};
 
-// Two types to link.
-#[derive(Clone, Copy)]
-pub struct Pair {
-    pub a: u8,
-    pub b: u8,
-}
-
-// The targets of s and t, to be linked next; where only one is int, s and t are DYNAMIC.
-fn step(targets: &[u8], m: &mut [u8], s: u8, t: u8) -> Pair
-    requires { Ref (length m.old) s × Ref (length m.old) t × (length m.old < length targets.now) × Falls targets.now }
-    ensures { Stepped (length m.old) targets.now m.old s t m.new result.a result.b }
+// The targets of s and t, to be linked next; where only one is int, s and t are DYNAMIC. Two of int, type 0, are equal: nothing is left to link.
+fn step(targets: &[u8], m: &mut [u8], s: u8, t: u8) -> (u8, u8)
+    requires first { Ref (length m.old) s }
+    requires second { Ref (length m.old) t }
+    requires size { length m.old < length targets.now }
+    requires falls { Falls targets.now }
+    ensures { Stepped (length m.old) targets.now m.old s t m.new result.0 result.1 }
 {
-    let i = s as usize;
-    let j = t as usize;
-    let a = targets[i];
-    let b = targets[j];
-    if a == 0 {
-        if b == 0 {
-            return Pair { a: 0, b: 0 };
+    match (targets[usize::from(s)], targets[usize::from(t)]) {
+        (0, 0) => (0, 0),
+        (0, _) | (_, 0) => {
+            at_least(m, s, DYNAMIC);
+            at_least(m, t, DYNAMIC);
+            (0, 0)
         }
-        at_least(m, s, 2);
-        at_least(m, t, 2);
-        return Pair { a: 0, b: 0 };
+        next => next,
     }
-    if b == 0 {
-        at_least(m, s, 2);
-        at_least(m, t, 2);
-        return Pair { a: 0, b: 0 };
-    }
-    Pair { a, b }
 }
 
-// One turn of linking a with the lower b.
-fn turn(targets: &[u8], p: &mut [u8], m: &mut [u8], a: u8, b: u8) -> Pair
-    requires { (b < a) × (1 ≤ b) × (a ≤ length m.old) × Tables (length m.old) targets.now p.old }
-    ensures { Turned (length m.old) targets.now p.old m.old a b p.new m.new result.a result.b }
-{
-    let i = a as usize;
-    let q = p[i];
-    if q == 0 {
-        p[i] = b;
-        return step(targets, m, a, b);
-    }
-    Pair { a: q, b }
-}
+// The lent tables stay parameters, and the types' numbers clauses: as fields of a struct, each step would have to promise that they are still those that were lent.
 
-// Links two types, and their targets level by level.
+// Links two types, and their targets level by level: each turn links the higher of the two to the lower, or goes on with what it is linked to already.
 fn link(targets: &[u8], p: &mut [u8], m: &mut [u8], from: u8, to: u8)
-    requires { (from ≤ length m.old) × (to ≤ length m.old) × ((from ≡ to → ⊥) → (1 ≤ from) × (1 ≤ to)) × Tables (length m.old) targets.now p.old }
+    requires first { from ≤ length m.old }
+    requires second { to ≤ length m.old }
+    requires references { (from ≡ to → ⊥) → (1 ≤ from) × (1 ≤ to) }
+    requires tables { Tables (length m.old) targets.now p.old }
     ensures { Linked (length m.old) targets.now p.old m.old from to p.new m.new 0 0 }
 {
-    let mut a = from;
-    let mut b = to;
+    let (mut a, mut b) = (from, to);
     while a != b {
-        if b < a {
-            let next = turn(targets, p, m, a, b);
-            a = next.a;
-            b = next.b;
+        let (high, low) = (a.max(b), a.min(b));
+        let i = usize::from(high);
+        if p[i] == 0 {
+            p[i] = low;
+            (a, b) = step(targets, m, high, low);
         } else {
-            let next = turn(targets, p, m, b, a);
-            a = next.a;
-            b = next.b;
+            (a, b) = (p[i], low);
         }
     }
 }
 
 // Links the targets of each conversion's two types.
-pub fn join(targets: &[u8], from: &[u8], to: &[u8], p: &mut [u8], m: &mut [u8])
-    requires { Tables (length m.old) targets.now p.old × Lists (length m.old) from.now to.now × ((x : ℕ) → at p.old x ≡ 0) }
-    ensures { Joined targets.now from.now to.now m.old (length from.now) p.new m.new × (length p.new ≡ length p.old) }
+pub fn join(targets: &[u8], conversions: &[Conversion], p: &mut [u8], m: &mut [u8])
+    requires tables { Tables (length m.old) targets.now p.old }
+    requires listed { All (Between (length m.old)) conversions.now }
+    requires none { (x : ℕ) → at p.old x ≡ 0 }
+    ensures joined { Joined targets.now conversions.now m.old p.new m.new }
+    ensures links { length p.new ≡ length p.old }
 {
-    let mut i: usize = 0;
-    while i < from.len() {
-        let s = from[i];
-        let t = to[i];
-        let next = step(targets, m, s, t);
-        link(targets, p, m, next.a, next.b);
-        i += 1;
+    for c in conversions {
+        let (a, b) = step(targets, m, c.from, c.to);
+        link(targets, p, m, a, b);
     }
 }

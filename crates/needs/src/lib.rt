@@ -2,71 +2,83 @@
 #![tactic(auto)]
 
 ghost use Rattle.std.specs.Prelude.{◌≡◌, ◌≤◌, ◌<◌, length};
-ghost use Rattle.rules.specs.Basic.{half};
-ghost use Rattle.rules.specs.Table.{routine};
-ghost use Rattle.rules.specs.Kinds.{kind, kind_of, expr_need, command_need};
-ghost use Rattle.needs.specs.Typed.{Typed};
+ghost use Rattle.rules.specs.Kinds.{kind};
+ghost use Rattle.needs.specs.Typed.{Typed, Typed_prop};
 
 use rules::{Kind, Need, Starts};
-
-// The kind of a marking's byte. A byte above 2 is no kind; DYNAMIC stands in.
-fn kind_by(byte: u8) -> Kind
-    ensures { result ≡ kind_of byte }
-{
-    match byte {
-        0 => Kind::SAFE,
-        1 => Kind::SEQ,
-        _ => Kind::DYNAMIC,
-    }
-}
+use view::{Command, Expr, View};
 
 // The kind of type `t` under a marking.
+#[tactic(auto, using(laws::specs::Convert::kind_up))]
 pub fn kind_of(marking: &[u8], t: u16) -> Kind
     requires { t ≤ length marking.now }
     ensures { result ≡ kind marking.now t }
 {
-    if t == 0 {
-        return Kind::int;
+    match t {
+        0 => Kind::int,
+        _ => Kind::from(marking[t as usize - 1]),
     }
-    let i = (t - 1) as usize;
-    kind_by(marking[i])
 }
 
-// What expression row `e` asks: a cast its conversion, a pointer sum that its pointer is not SAFE. `ty` has the types of the expression rows.
-pub fn expr_need(file: &[u8], at: Starts, ty: &[u16; 1024], e: usize) -> Need
-    requires { Typed file.now at ty.now × (e < half file.now at.exprs) }
-    ensures { result ≡ expr_need (routine file.now at) ((routine file.now at).expr e) }
-{
-    let row = view::expr_row(file, at, e);
-    if row.tag == 3 {
-        let a = row.a as usize;
-        let s = ty[a] as u8;
-        let t = row.b as u8;
-        return Need::Converting(s, t);
-    }
-    if row.tag == 5 {
-        let a = row.a as usize;
-        let s = ty[a] as u8;
-        return Need::Moving(s);
-    }
-    Need::Nothing
+// A well-formed file, with the types of its expression rows.
+#[derive(Clone, Copy)]
+pub struct WellFormed<'a> {
+    pub view: View<'a>,
+    pub types: &'a [u16; 1024],
+    pub ghost typed: { Typed view.bytes.now view.at types.now } by { Typed_prop view.bytes.now view.at types.now },
 }
 
-// What command row `c` asks: a store the conversion of its value to the target of its pointer's type.
-#[tactic(auto, using(crate::proofs::Operands::store_asks))]
-pub fn command_need(file: &[u8], at: Starts, ty: &[u16; 1024], c: usize) -> Need
-    requires { Typed file.now at ty.now × (c < half file.now at.commands) }
-    ensures { result ≡ command_need (routine file.now at) ((routine file.now at).command c) }
-{
-    let row = view::command_row(file, at, c);
-    if row.tag == 2 {
-        let a = row.a as usize;
-        let b = row.b as usize;
-        let pointer = ty[a] as usize;
-        let s = ty[b] as u8;
-        let reached = view::type_row(file, at, pointer);
-        let t = reached.target as u8;
-        return Need::Converting(s, t);
+impl<'a> WellFormed<'a> {
+    ghost use Rattle.rules.specs.Shape.{type_of};
+    ghost use Rattle.rules.specs.Kinds.{expr_need, command_need};
+    ghost use Rattle.view.specs.Files.{routine_of};
+
+    // The file of these bytes, whose sections start at `at`.
+    pub fn new(bytes: &'a [u8], at: Starts, types: &'a [u16; 1024]) -> Self
+        requires { Typed bytes.now at types.now }
+        ensures view { (result.view.bytes ≡ bytes.entry) × (result.view.at ≡ at) }
+        ensures types { result.types ≡ types.entry }
+    {
+        let view = View { bytes, at };
+        WellFormed { view, types }
     }
-    Need::Nothing
+
+    // The type of expression row `e`.
+    pub fn type_of(&self, e: u16) -> u8
+        requires { e < (routine_of self.now.view).exprs }
+        ensures value { result ≡ type_of (routine_of self.now.view) e }
+        ensures in_range { result ≤ (routine_of self.now.view).types }
+    {
+        self.types[e as usize] as u8
+    }
+
+    // What expression row `e` asks: a cast its conversion, a pointer sum that its pointer is not SAFE.
+    pub fn expr_need(&self, e: usize) -> Need
+        requires { e < (routine_of self.now.view).exprs }
+        ensures { result ≡ expr_need (routine_of self.now.view) ((routine_of self.now.view).expr e) }
+    {
+        match self.view.expr(e) {
+            Expr::Cast(a, t) => Need::Converting(self.type_of(a), t as u8),
+            Expr::Sum(a, _) => Need::Moving(self.type_of(a)),
+            Expr::Literal(_) | Expr::Home(_) | Expr::Null(_) | Expr::Read(_) | Expr::Op(..) =>
+                Need::Nothing,
+        }
+    }
+
+    // What command row `c` asks: a store the conversion of its value to the target of its pointer's type.
+    #[tactic(auto, using(view::specs::Typed::target_type))]
+    pub fn command_need(&self, c: usize) -> Need
+        requires { c < (routine_of self.now.view).commands }
+        ensures { result ≡ command_need (routine_of self.now.view) ((routine_of self.now.view).command c) }
+    {
+        match self.view.command(c) {
+            Command::Store(a, b) => {
+                let pointer = self.type_of(a);
+                let reached = self.view.type_row(usize::from(pointer));
+                Need::Converting(self.type_of(b), reached.target as u8)
+            }
+            Command::Skip | Command::Then(..) | Command::If(..) | Command::While(..) =>
+                Need::Nothing,
+        }
+    }
 }

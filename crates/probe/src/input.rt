@@ -1,74 +1,93 @@
-// Numbers and bytes from standard input. `used` counts the bytes that were read before.
-ghost use Rattle.std.specs.Prelude.{◌≤◌, length, IfOk};
+// The bytes of requests, and how many were read so far.
+ghost use Rattle.std.specs.Prelude.{◌≡◌, ◌+◌, ◌%◌, ◌^◌, ◌≤◌, ◌<◌, length, take, Err, IfOk, OnOk, IsNone, option_to_list};
 
 use std::io;
 use std::io::Read;
+use streams::read_full;
 
-// A number that was read whole, or the input's end.
-#[derive(Clone, Copy)]
-pub enum Number {
-    Is(u64),
-    Cut,
+// Why a request is not answered: it is cut short, of another letter or over a limit; or a read failed.
+#[derive(Debug, Drop)]
+pub enum Failure {
+    Bad,
+    Lost(io::Error),
 }
 
-fn wide(b: u8) -> u64 {
-    b as u64
+impl From<io::Error> for Failure {
+    ghost use Rattle.probe.specs.declared.input.Failure.{Failure};
+
+    ghost from_gives = { λ error failure. failure ≡ Failure.Lost error };
+
+    fn from(error: io::Error) -> Self {
+        Failure::Lost(error)
+    }
 }
 
-// Reads until the buffer is full or the input ends: how many bytes it got.
-pub fn read_full<R: Read>(input: &mut R, buf: &mut [u8]) -> io::Result<usize>
-    ensures { IfOk result (λ n. n ≤ length buf.new) }
-{
-    let mut got: usize = 0;
-    while got < buf.len() {
-        let n = input.read(&mut buf[got..])?;
-        if n == 0 {
-            return Ok(got);
+// A reader, and the offset of its next byte.
+#[derive(Drop)]
+pub struct Input<R> {
+    from: R,
+    offset: u64,
+}
+
+impl<R: Read> Input<R> {
+    ghost use Rattle.probe.specs.Input.{offset_of, left_of, Gives, IsEnded};
+
+    pub fn new(from: R) -> Self
+        ensures offset { offset_of result ≡ 0 }
+        ensures left { left_of R.remaining result ≡ R.remaining from }
+    {
+        Input { from, offset: 0 }
+    }
+
+    pub fn offset(&self) -> u64
+        ensures { result ≡ offset_of self.now }
+    {
+        self.offset
+    }
+
+    // Reads until the buffer is full or the input ends: how many bytes it got.
+    fn get(&mut self, buf: &mut [u8]) -> io::Result<usize>
+        ensures within { IfOk result (λ n. n ≤ length buf.new) }
+        ensures bytes { IfOk result (λ n. Gives R.remaining self.old self.new (take n buf.new)) }
+        ensures end { IfOk result (λ n. n < length buf.new → IsEnded R.remaining self.new) }
+        ensures counted { IfOk result (λ n. offset_of self.new ≡ (offset_of self.old + n) % 2 ^ 64) }
+    {
+        let got = read_full(&mut self.from, buf)?;
+        self.offset = self.offset.wrapping_add(got as u64);
+        Ok(got)
+    }
+
+    // The letter of a request, or `None` at the end of the input.
+    pub fn letter(&mut self) -> io::Result<Option<u8>>
+        ensures bytes { IfOk result (λ letter. Gives R.remaining self.old self.new (option_to_list letter)) }
+        ensures end { IfOk result (λ letter. IsNone letter → IsEnded R.remaining self.new) }
+    {
+        let mut letter = [0];
+        if self.get(&mut letter)? == 0 {
+            return Ok(None);
         }
-        got += n;
+        Ok(Some(letter[0]))
     }
-    Ok(got)
-}
 
-// One byte.
-pub fn byte<R: Read>(input: &mut R) -> io::Result<Number> {
-    let mut one = [0u8; 1];
-    let got = read_full(input, &mut one)?;
-    if got < 1 {
-        return Ok(Number::Cut);
+    // Fills the buffer, or the request is bad: it is cut short.
+    pub fn fill(&mut self, buf: &mut [u8]) -> Result<(), Failure>
+        ensures bytes { OnOk result (Gives R.remaining self.old self.new buf.new) }
+        ensures counted { OnOk result (offset_of self.new ≡ (offset_of self.old + length buf.new) % 2 ^ 64) }
+        ensures short { result ≡ Err Failure.Bad → IsEnded R.remaining self.new }
+    {
+        if self.get(buf)? < buf.len() {
+            return Err(Failure::Bad);
+        }
+        Ok(())
     }
-    Ok(Number::Is(wide(one[0])))
-}
 
-// A 16-bit number.
-pub fn half<R: Read>(input: &mut R) -> io::Result<Number> {
-    let mut two = [0u8; 2];
-    let got = read_full(input, &mut two)?;
-    if got < 2 {
-        return Ok(Number::Cut);
+    // The bytes of a number.
+    pub fn bytes<const N: usize>(&mut self) -> Result<[u8; N], Failure>
+        ensures bytes { IfOk result (λ bytes. Gives R.remaining self.old self.new bytes) }
+        ensures short { result ≡ Err Failure.Bad → IsEnded R.remaining self.new }
+    {
+        let mut bytes = [0; N];
+        self.fill(&mut bytes)?;
+        Ok(bytes)
     }
-    Ok(Number::Is(wide(two[0]) % 256 + 256 * (wide(two[1]) % 256)))
-}
-
-// A 32-bit number.
-pub fn word<R: Read>(input: &mut R) -> io::Result<Number> {
-    let mut four = [0u8; 4];
-    let got = read_full(input, &mut four)?;
-    if got < 4 {
-        return Ok(Number::Cut);
-    }
-    let low = wide(four[0]) % 256 + 256 * (wide(four[1]) % 256);
-    let high = wide(four[2]) % 256 + 256 * (wide(four[3]) % 256);
-    Ok(Number::Is(low + 65536 * high))
-}
-
-// An entry of 64 bits.
-pub fn entry<R: Read>(input: &mut R) -> io::Result<Number> {
-    let Number::Is(low) = word(input)? else {
-        return Ok(Number::Cut);
-    };
-    let Number::Is(high) = word(input)? else {
-        return Ok(Number::Cut);
-    };
-    Ok(Number::Is(low % 4294967296 + 4294967296 * (high % 4294967296)))
 }

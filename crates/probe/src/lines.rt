@@ -1,44 +1,43 @@
-// Lines of text on standard output, gathered in a lent buffer that is written out whenever it is full.
-// `at` is how much of the buffer is filled; each function answers how much is filled afterwards.
-use itoa::Buffer;
+// Lines of text on standard output, gathered in a buffer that is written out whenever it is full.
+ghost use Rattle.std.specs.Prelude.{◌≡◌, []};
+
+use arrayvec::ArrayVec;
 use std::io;
 use std::io::Write;
 
-// One byte more.
-pub fn put(rt: &HostRuntime, out: &mut [u8], at: usize, b: u8) -> io::Result<usize> {
-    if at < out.len() {
-        out[at] = b;
-        return Ok(at + 1);
-    }
-    io::writer(rt).write_all(out)?;
-    if 0 < out.len() {
-        out[0] = b;
-        return Ok(1);
-    }
-    Ok(0)
+const ROOM: usize = 4096;
+
+#[derive(Drop)]
+pub struct Lines<W> {
+    to: W,
+    waiting: ArrayVec<u8, ROOM>,
 }
 
-// The bytes of a word.
-pub fn put_word(rt: &HostRuntime, out: &mut [u8], at: usize, word: &[u8]) -> io::Result<usize> {
-    let mut end = at;
-    let mut i: usize = 0;
-    while i < word.len() {
-        end = put(rt, out, end, word[i])?;
-        i += 1;
+impl<W: Write> Lines<W> {
+    ghost use Rattle.probe.specs.Lines.{waiting};
+
+    pub fn new(to: W) -> Self
+        ensures { waiting result ≡ [] }
+    {
+        Lines {
+            to,
+            waiting: ArrayVec::new(),
+        }
     }
-    Ok(end)
 }
 
-// A number, in decimal.
-pub fn put_number(rt: &HostRuntime, out: &mut [u8], at: usize, n: u64) -> io::Result<usize> {
-    let mut digits = Buffer::new();
-    put_word(rt, out, at, digits.format(n).as_bytes())
-}
-
-// What is left in the buffer goes out.
-pub fn flush(rt: &HostRuntime, out: &[u8], at: usize) -> io::Result<()> {
-    if at <= out.len() {
-        io::writer(rt).write_all(&out[..at])?;
+impl<W: Write> Write for Lines<W> {
+    // As many of the bytes as the buffer has room for. A full one is written out first.
+    fn write(&mut self, bytes: &[u8]) -> io::Result<usize> {
+        if self.waiting.is_full() {
+            self.flush()?;
+        }
+        self.waiting.write(bytes)
     }
-    Ok(())
+
+    fn flush(&mut self) -> io::Result<()> {
+        self.to.write_all(&self.waiting)?;
+        self.waiting.clear();
+        Ok(())
+    }
 }

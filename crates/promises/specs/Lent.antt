@@ -17,7 +17,9 @@ use Rattle.rules.specs.declared.Kind.TheVariants.{int, SAFE, SEQ, DYNAMIC}
 use Rattle.rules.specs.Kinds.{kind}
 use Rattle.rules.specs.Steps.{Step, entered, looked, Told, quiet, after, tell}
 use Rattle.rules.specs.Memory.{State, cell, put, encode, decode, held, size, address}
-use Rattle.rules.specs.Ruled.{Check, check2, Ruled, gives, fails, stuck, onward, must}
+use Rattle.rules.specs.declared.Check.{Check}
+use Rattle.rules.specs.declared.Check.TheVariants.{Bounds}
+use Rattle.rules.specs.Ruled.{Ruled, gives, fails, stuck, onward, must}
 use Rattle.rules.specs.Values.{convert, home_value, reach_safe, reach, fetched, paired, kept}
 use Rattle.rules.specs.Start.{fresh_cells, given_value, cleared, given, start}
 use Rattle.rules.specs.Run.{Stop, Answer, got, stopped, Ran, done, halted, on_value, and_then, ruled, enter, on_done, afterwards, answered, turns, expr_row, eval_below, command_row, exec_below, run}
@@ -94,7 +96,7 @@ module _ (hs : List Home) (a b : List ℕ) where
   reach_same SEQ v = ap (λ u. onward u (λ x. reach_safe (over hs a) x)) (convert_same SAFE v) ∙ narrow_same (convert (over hs b) SAFE v)
   reach_same DYNAMIC (Number n) = refl
   reach_same DYNAMIC (Pair zero n) = refl
-  reach_same DYNAMIC (Pair (suc g) n) = ap (λ u. must check2 (ltb n (size (over hs a) (suc g))) u) (safe_same (Number (address (over hs a) (suc g) n)))
+  reach_same DYNAMIC (Pair (suc g) n) = ap (λ u. must Bounds (ltb n (size (over hs a) (suc g))) u) (safe_same (Number (address (over hs a) (suc g) n)))
 
   fetched_same : (k t : Kind) (v : Value) → fetched (over hs a) k t v ≡ fetched (over hs b) k t v
   fetched_same k t v = by_kinds (λ k t. fetched (over hs a) k t v ≡ fetched (over hs b) k t v) (λ t. refl) (λ t. refl) (λ t. refl) (convert_same int v) refl refl refl k t
@@ -131,7 +133,7 @@ module _ {n : ℕ} {hs : List Home} (reached : Reached n hs) (a : List ℕ) wher
       go stuck = none
   near_reach DYNAMIC (Number i) = none
   near_reach DYNAMIC (Pair zero i) = fail
-  near_reach DYNAMIC (Pair (suc g) i) = near_must check2 (ltb i (home_at hs (suc g)).size) (near_safe (Number (address (over hs a) (suc g) i)))
+  near_reach DYNAMIC (Pair (suc g) i) = near_must Bounds (ltb i (home_at hs (suc g)).size) (near_safe (Number (address (over hs a) (suc g) i)))
 
 module _ {n : ℕ} where
   cell_agree : {w z : State} → Agree n w z → (i : ℕ) → i - 1 < n → cell w i ≡ cell z i

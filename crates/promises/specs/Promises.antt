@@ -1,12 +1,10 @@
 -- What is promised of the rules. Statements only: the proofs are in `Proofs`, or in the module that its first lines name.
-use Rattle.std.specs.Prelude.{◌≡◌, ◌⊎◌, true, ℕ, suc, ◌+◌, ◌-◌, ◌%◌, ◌≤◌, ◌<◌, List, [], ◌∷◌, ◌++◌, length, get_or, drop, take, replicate}
+use Rattle.std.specs.Prelude.{◌≡◌, ◌⊎◌, true, ℕ, suc, ◌+◌, ◌-◌, ◌%◌, ◌≤◌, ◌<◌, List, [], ◌∷◌, ◌++◌, length, get_or, drop, take, replicate, Result}
 use Rattle.rules.specs.declared.Value.{Value}
 use Rattle.rules.specs.declared.Value.TheVariants.{Number, Pair}
 use Rattle.rules.specs.declared.Starts.{Starts}
-use Rattle.rules.specs.declared.ReadAnswer.{ReadAnswer}
-use Rattle.rules.specs.declared.CheckAnswer.{CheckAnswer}
-use Rattle.rules.specs.declared.InferAnswer.{InferAnswer}
-use Rattle.rules.specs.declared.RunAnswer.{RunAnswer}
+use Rattle.rules.specs.declared.Refusal.{Refusal}
+use Rattle.rules.specs.declared.Report.{Report}
 use Rattle.rules.specs.Basic.{Bytes, half, width, fine, refused, unless_refused}
 use Rattle.rules.specs.Table.{Routine, routine, null, read}
 use Rattle.rules.specs.Reading.{cells, sections, reading, rises}
@@ -17,13 +15,15 @@ use Rattle.rules.specs.Shape.{home_at, type_of, expr_shaped, command_shaped, val
 use Rattle.rules.specs.Least.{Least}
 use Rattle.rules.specs.Steps.{Step, entered, looked, stored, Told, units}
 use Rattle.rules.specs.Memory.{State, cell, replay}
-use Rattle.rules.specs.Ruled.{Check, check2, gives, fails}
+use Rattle.rules.specs.declared.Check.{Check}
+use Rattle.rules.specs.declared.Check.TheVariants.{Bounds}
+use Rattle.rules.specs.Ruled.{gives, fails}
 use Rattle.rules.specs.Values.{convert, reach, moved, fetched}
 use Rattle.rules.specs.Start.{fresh_value, start_address, given_in, cleared, start}
 use Rattle.rules.specs.Run.{Stop, no_fuel, failed, no_rule, got, Ran, done, halted, eval, exec, run}
 use Rattle.rules.specs.Ends.{Ends, left_after}
 use Rattle.rules.specs.Valid.{In, Real, InHome, Valid, ValidState}
-use Rattle.rules.specs.Calls.{formed, judged, cell_count, Ending, finished, out_of_fuel, failed_check, ending_of, state_of, Left, Ended, Inferred, checking, running, read_says, check_says, infer_says, run_says, runnable}
+use Rattle.rules.specs.Calls.{formed, judged, cell_count, Ending, finished, out_of_fuel, failed_check, ending_of, state_of, Left, Ended, Inferred, checking, running, says, run_says, runnable}
 use Rattle.rules.specs.Made.{Made}
 use Rattle.laws.specs.Formed.{Fits, CommandFits, ValueFits}
 use Rattle.rules.specs.Graph.{Meets, Each, demands}
@@ -228,7 +228,7 @@ pub record Nowhere (w : State) (s : Kind) (n : ℕ) : Type 0 where
   pub made : convert w s (Number n) ≡ gives (Pair 0 n)
   pub summed : (k : ℕ) → moved (Pair 0 n) (Number k) ≡ gives (Pair 0 ((n + k) % width))
   pub access : (c : Check) × (reach w s (Pair 0 n) ≡ fails c)
-  pub narrowed : (convert w SAFE (Pair 0 n) ≡ gives (Number 0)) ⊎ (convert w SAFE (Pair 0 n) ≡ fails check2)
+  pub narrowed : (convert w SAFE (Pair 0 n) ≡ gives (Number 0)) ⊎ (convert w SAFE (Pair 0 n) ≡ fails Bounds)
 
 abbrev pub MadeOfNumber : Type 0
 MadeOfNumber = (r : Routine) (m : List ℕ) (w : State) → ValidState r m w → (s : Kind) → not_safe s ≡ true → (n : ℕ) → Nowhere w s n
@@ -260,10 +260,10 @@ Rows = (s m : List ℕ) (at : Starts) → Bytes s → judged s m ≡ fine at →
 
 -- The code's answers lose nothing of what they say: two that say the same are the same.
 pub record Lossless : Type 0 where
-  pub reading : (x y : ReadAnswer) → read_says x ≡ read_says y → x ≡ y
-  pub checking : (x y : CheckAnswer) → check_says x ≡ check_says y → x ≡ y
-  pub inferring : (x y : InferAnswer) → infer_says x ≡ infer_says y → x ≡ y
-  pub running : (x y : RunAnswer) → run_says x ≡ run_says y → x ≡ y
+  pub reading : (x y : Result Starts Refusal) → says x ≡ says y → x ≡ y
+  pub checking : (x y : Result (Unit {0}) Refusal) → says x ≡ says y → x ≡ y
+  pub inferring : (x y : Result (Unit {0}) Refusal) → says x ≡ says y → x ≡ y
+  pub running : (x y : Result Report Refusal) → run_says x ≡ run_says y → x ≡ y
 
 -- The numbers that a refusal can have (RULES 2.3).
 abbrev pub OfReading : ℕ → Type 0

@@ -12,7 +12,9 @@ use Rattle.rules.specs.declared.Kind.TheVariants.{int, SAFE, SEQ, DYNAMIC}
 use Rattle.rules.specs.Kinds.{Acceptable}
 use Rattle.rules.specs.Calls.{formed, judged, lent_enough, cell_count, out_of_fuel, failed_check, ending_of, state_of, Ended, Left, or_leave, reported, Inferred, left, marked, inferable, runnable, running}
 use Rattle.rules.specs.Memory.{State, replay, encode, stepped}
-use Rattle.rules.specs.Ruled.{Check, check1, check2, check3, check4, check_number, gives, fails}
+use Rattle.rules.specs.declared.Check.{Check}
+use Rattle.rules.specs.declared.Check.TheVariants.{Null, Bounds, NoHome, ByZero}
+use Rattle.rules.specs.Ruled.{check_number, gives, fails}
 use Rattle.rules.specs.Values.{convert, reach}
 use Rattle.rules.specs.Start.{fresh_cells, cleared, start}
 use Rattle.rules.specs.Run.{no_fuel, failed, no_rule, Ran, done, halted, run}
@@ -171,10 +173,10 @@ regular (at_stop Proper.fuel) = is_fuel
 regular (at_stop (Proper.check {c = c})) = by_check c
   where
     by_check : {p : ℕ} (c : Check) → Regular (failed_check (check_number c) p)
-    by_check check1 = is_check {n = 1} (omega arith) (omega arith)
-    by_check check2 = is_check {n = 2} (omega arith) (omega arith)
-    by_check check3 = is_check {n = 3} (omega arith) (omega arith)
-    by_check check4 = is_check {n = 4} (omega arith) (omega arith)
+    by_check Null = is_check {n = 1} (omega arith) (omega arith)
+    by_check Bounds = is_check {n = 2} (omega arith) (omega arith)
+    by_check NoHome = is_check {n = 3} (omega arith) (omega arith)
+    by_check ByZero = is_check {n = 4} (omega arith) (omega arith)
 
 pub endings : Endings
 unfolding running
@@ -187,10 +189,10 @@ endings s m fuel lent e b h = go (runnable s m lent) refl h
 -- ---- numbers made into pointers
 
 narrow : {r : Routine} {m : List ℕ} {w : State} → ValidState r m w → (n : ℕ)
-    → (convert w SAFE (Pair 0 n) ≡ gives (Number 0)) ⊎ (convert w SAFE (Pair 0 n) ≡ fails check2)
+    → (convert w SAFE (Pair 0 n) ≡ gives (Number 0)) ⊎ (convert w SAFE (Pair 0 n) ≡ fails Bounds)
 narrow {w = w} ok n = go (ltb n (home_at w.homes 0).size) refl
   where
-    go : (b : Bool) → ltb n (home_at w.homes 0).size ≡ b → (convert w SAFE (Pair 0 n) ≡ gives (Number 0)) ⊎ (convert w SAFE (Pair 0 n) ≡ fails check2)
+    go : (b : Bool) → ltb n (home_at w.homes 0).size ≡ b → (convert w SAFE (Pair 0 n) ≡ gives (Number 0)) ⊎ (convert w SAFE (Pair 0 n) ≡ fails Bounds)
     go true e = inl (rw (e, null_address ok refl (ltb-true _ _ e)))
     go false e = inr (rw e)
 
@@ -199,10 +201,10 @@ made_of_number r m w ok int h n = false_true h
 made_of_number r m w ok SAFE h n = false_true h
 made_of_number r m w ok SEQ h n = record { made = refl; summed = λ k. refl; access = go (narrow ok n); narrowed = narrow ok n }
   where
-    go : (convert w SAFE (Pair 0 n) ≡ gives (Number 0)) ⊎ (convert w SAFE (Pair 0 n) ≡ fails check2) → (c : Check) × (reach w SEQ (Pair 0 n) ≡ fails c)
-    go (inl e) = (check1, rw e)
-    go (inr e) = (check2, rw e)
-made_of_number r m w ok DYNAMIC h n = record { made = refl; summed = λ k. refl; access = (check3, refl); narrowed = narrow ok n }
+    go : (convert w SAFE (Pair 0 n) ≡ gives (Number 0)) ⊎ (convert w SAFE (Pair 0 n) ≡ fails Bounds) → (c : Check) × (reach w SEQ (Pair 0 n) ≡ fails c)
+    go (inl e) = (Null, rw e)
+    go (inr e) = (Bounds, rw e)
+made_of_number r m w ok DYNAMIC h n = record { made = refl; summed = λ k. refl; access = (NoHome, refl); narrowed = narrow ok n }
 
 -- ---- markings
 

@@ -1,7 +1,9 @@
 -- What is asked of kinds, type by type and conversion by conversion, over plain tables.
--- T has the target of each type, p the lower type that it is linked to or 0, F and G the conversions' types, from and to.
-use Rattle.std.specs.Prelude.{◌≡◌, ℕ, ◌≤◌, ◌<◌, List, length}
+-- T has the target of each type, p the lower type that it is linked to or 0, C the conversions.
+use Rattle.std.specs.Prelude.{ℕ, ◌≤◌, ◌<◌, List, length}
+use Rattle.std.specs.List.{All}
 use Rattle.rules.specs.Graph.{byte_of}
+use Rattle.raise.specs.declared.Conversion.{Conversion}
 use Rattle.raise.specs.Marks.{at}
 
 -- ---- the tables
@@ -21,16 +23,10 @@ pub record Ref (n t : ℕ) : Type 0 where
   pub low : 1 ≤ t
   pub high : t ≤ n
 
-pub record Lists (n : ℕ) (F G : List ℕ) : Type 0 where
-  pub size : length G ≡ length F
-  pub from : (j : ℕ) → j < length F → Ref n (at F j)
-  pub to : (j : ℕ) → j < length F → Ref n (at G j)
-
-pub tables_size : {T p : List ℕ} {k n : ℕ} → n ≡ k → Tables k T p → Tables n T p
-tables_size e t = rw e t
-
-pub lists_size : {F G : List ℕ} {k n : ℕ} → n ≡ k → Lists k F G → Lists n F G
-lists_size e t = rw e t
+-- A conversion between two references.
+pub record Between (n : ℕ) (c : Conversion) : Type 0 where
+  pub from : Ref n c.from
+  pub to : Ref n c.to
 
 -- ---- the demands
 
@@ -53,17 +49,17 @@ pub record Row (T p w : List ℕ) (x : ℕ) : Type 0 where
   pub level : Level w x (at p x)
   pub down : Edge w x (at T x) 2
 
--- A conversion of s to t, as far as its own two kinds go: back to s, and DYNAMIC forth to t.
-pub record Outer (w : List ℕ) (s t : ℕ) : Type 0 where
-  pub back : Upward w t s
-  pub forth : Edge w s t 2
+-- A conversion, as far as its own two kinds go: back to its source, and DYNAMIC forth to the other.
+pub record Outer (w : List ℕ) (c : Conversion) : Type 0 where
+  pub back : Upward w c.to c.from
+  pub forth : Edge w c.from c.to 2
 
 pub record Rows (n : ℕ) (T p w : List ℕ) : Type 0 where
   pub each : (x : ℕ) → Ref n x → Row T p w x
 
-pub record Outers (F G w : List ℕ) : Type 0 where
-  pub each : (j : ℕ) → j < length F → Outer w (at F j) (at G j)
+pub record Outers (C : List Conversion) (w : List ℕ) : Type 0 where
+  pub each : All (Outer w) C
 
-pub record Whole (n : ℕ) (T p F G w : List ℕ) : Type 0 where
+pub record Whole (n : ℕ) (T p : List ℕ) (C : List Conversion) (w : List ℕ) : Type 0 where
   pub rows : Rows n T p w
-  pub outers : Outers F G w
+  pub outers : Outers C w

@@ -1,3 +1,4 @@
 pub mod Marks
 pub mod Demands
 pub mod Moves
+pub mod Raising

@@ -1,6 +1,6 @@
 -- Tables and markings, entry by entry; markings compared; one type raised.
 use Rattle.std.specs.Prelude.{◌≡◌, refl, ℕ, zero, suc, ◌-◌, ◌≤◌, ◌<◌, List, [], ◌∷◌, length, get_or, set, replicate}
-use Rattle.std.proofs.Common.{ap, not-suc-le-zero, le_refl, le_trans, arith, length-set, get_or-set_same}
+use Rattle.std.proofs.Common.{ap, not-suc-le-zero, le_refl, le_trans, arith}
 use Rattle.rules.specs.Graph.{byte_of}
 
 -- Entry i of a table; 0 past its end.
@@ -73,16 +73,3 @@ pub record Raised (m m' : List ℕ) (t k : ℕ) : Type 0 where
   pub grows : Below m m'
   pub gets : k ≤ byte_of m' t
   pub below : (w : List ℕ) → Below m w → k ≤ byte_of w t → Below m' w
-
-module _ (m : List ℕ) (t k : ℕ) (low : 1 ≤ t) (high : t ≤ length m) where
-  pub raised_set : at m (t - 1) < k → Raised m (set m (t - 1) k) t k
-  raised_set l =
-      record {
-        size = length-set m (t - 1) k;
-        grows = below_set (t - 1) k (omega arith);
-        gets = rw (byte_at (set m (t - 1) k) t low, get_or-set_same m (t - 1) k 0 (omega arith)) (le_refl _);
-        below = λ w b q. set_below (t - 1) k b (rw (byte_at w t low) at q);
-      }
-
-  pub raised_none : k ≤ at m (t - 1) → Raised m m t k
-  raised_none l = record { size = refl; grows = below_same; gets = rw (byte_at m t low) l; below = λ w b q. b }

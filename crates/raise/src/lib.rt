@@ -2,137 +2,169 @@
 #![tactic(auto)]
 
 ghost use Rattle.std.specs.Prelude.{◌≡◌, ℕ, ◌≤◌, ◌<◌, length, false};
+ghost use Rattle.std.specs.List.{All};
 ghost use Rattle.raise.specs.Marks.{Raised};
-ghost use Rattle.raise.specs.Demands.{Ref, Edge, Upward, Level, Row, Outer, Rows, Outers, Whole, Tables, Lists};
+ghost use Rattle.raise.specs.Demands.{Ref, Between, Edge, Upward, Level, Row, Outer, Rows, Outers, Whole, Tables};
 ghost use Rattle.raise.specs.Moves.{Meets, Rests};
+
+// The kinds above SAFE as bytes of a marking. Hosts in C lend it, so that the C interface needs numbers here and no enum.
+pub const SEQ: u8 = 1;
+
+pub const DYNAMIC: u8 = 2;
+
+// A conversion of a reference type to another, by their numbers.
+#[derive(Clone, Copy, Debug, Default, PartialEq, Eq)]
+pub struct Conversion {
+    pub from: u8,
+    pub to: u8,
+}
+
+// What kinds are raised along: each type's target and link, and the conversions. 0 is no target and no link: it is int, which has
+// neither, so an `Option` would say the same twice. The tables stay two, since the checker wants targets alone.
+#[derive(Clone, Copy)]
+pub struct Graph<'a> {
+    pub types: u8,
+    pub targets: &'a [u8],
+    pub links: &'a [u8],
+    pub conversions: &'a [Conversion],
+    pub ghost tables: { Tables types targets.now links.now },
+    pub ghost listed: { All (Between types) conversions.now },
+}
 
 // Type t is made k at least.
 pub fn at_least(m: &mut [u8], t: u8, k: u8)
     requires { Ref (length m.old) t }
     ensures { Raised m.old m.new t k }
 {
-    let i = (t as usize) - 1;
+    let i = usize::from(t) - 1;
     if m[i] < k {
         m[i] = k;
-        return;
     }
 }
 
-// If s is k at least, t is raised to k. Tells whether anything moved, now or before.
-fn flow(m: &mut [u8], s: u8, t: u8, k: u8, was: bool) -> bool
-    requires { (s ≤ length m.old) × (t ≤ length m.old) × (1 ≤ k) × (k ≤ 2) }
-    ensures { Meets (λ w. Edge w s t k) m.old m.new was result }
-{
-    if s == 0 {
-        return was;
-    }
-    if t == 0 {
-        return was;
-    }
-    let i = (s as usize) - 1;
-    if m[i] < k {
-        return was;
-    }
-    let j = (t as usize) - 1;
-    if k <= m[j] {
-        return was;
-    }
-    m[j] = k;
-    true
+// A marking while its kinds are raised, and whether any has moved: with a flag that each step answers, it took half as long again.
+// What ties type numbers and a graph to the marking stays a `requires`: were the graph a field too, each step would have to promise that it stays.
+#[derive(Drop)]
+struct Raising<'a> {
+    kinds: &'a mut [u8],
+    moved: bool,
 }
 
-// t is raised to the kind of s.
-fn upward(m: &mut [u8], s: u8, t: u8, was: bool) -> bool
-    requires { (s ≤ length m.old) × (t ≤ length m.old) }
-    ensures { Meets (λ w. Upward w s t) m.old m.new was result }
-{
-    let one = flow(m, s, t, 1, was);
-    flow(m, s, t, 2, one)
-}
+impl<'a> Raising<'a> {
+    ghost use Rattle.raise.specs.Raising.{Sees};
 
-// s and t are raised to one kind.
-fn level(m: &mut [u8], s: u8, t: u8, was: bool) -> bool
-    requires { (s ≤ length m.old) × (t ≤ length m.old) }
-    ensures { Meets (λ w. Level w s t) m.old m.new was result }
-{
-    let up = upward(m, s, t, was);
-    upward(m, t, s, up)
-}
-
-// One type: its link and its target.
-fn row(targets: &[u8], p: &[u8], m: &mut [u8], x: u8, was: bool) -> bool
-    requires { Ref (length m.old) x × Tables (length m.old) targets.now p.now }
-    ensures { Meets (λ w. Row targets.now p.now w x) m.old m.new was result }
-{
-    let i = x as usize;
-    let q = p[i];
-    let t = targets[i];
-    let linked = level(m, x, q, was);
-    flow(m, x, t, 2, linked)
-}
-
-// One conversion, as far as its own two kinds go. SEQ goes back to the source only.
-fn outer(m: &mut [u8], s: u8, t: u8, was: bool) -> bool
-    requires { (s ≤ length m.old) × (t ≤ length m.old) }
-    ensures { Meets (λ w. Outer w s t) m.old m.new was result }
-{
-    let back = upward(m, t, s, was);
-    flow(m, s, t, 2, back)
-}
-
-// Every type: from the top down, and in step from the bottom up.
-fn rows(targets: &[u8], p: &[u8], m: &mut [u8], was: bool) -> bool
-    requires { (length m.old ≤ 255) × Tables (length m.old) targets.now p.now }
-    ensures { Meets (Rows (length m.old) targets.now p.now) m.old m.new was result }
-{
-    let n = m.len();
-    let mut moved = was;
-    let mut i = n;
-    while 0 < i {
-        let x = i as u8;
-        let y = (n + 1 - i) as u8;
-        let down = row(targets, p, m, x, moved);
-        moved = row(targets, p, m, y, down);
-        i -= 1;
-    }
-    moved
-}
-
-// Every conversion.
-fn outers(from: &[u8], to: &[u8], m: &mut [u8], was: bool) -> bool
-    requires { Lists (length m.old) from.now to.now }
-    ensures { Meets (Outers from.now to.now) m.old m.new was result }
-{
-    let mut moved = was;
-    let mut i: usize = 0;
-    while i < from.len() {
-        let s = from[i];
-        let t = to[i];
-        moved = outer(m, s, t, moved);
-        i += 1;
-    }
-    moved
-}
-
-// Everything once. Tells whether any kind rose.
-fn pass(targets: &[u8], from: &[u8], to: &[u8], p: &[u8], m: &mut [u8]) -> bool
-    requires { (length m.old ≤ 255) × Tables (length m.old) targets.now p.now × Lists (length m.old) from.now to.now }
-    ensures { Meets (Whole (length m.old) targets.now p.now from.now to.now) m.old m.new false result }
-{
-    let moved = rows(targets, p, m, false);
-    outers(from, to, m, moved)
-}
-
-// Until nothing moves.
-#[tactic(auto, using(crate::specs::Moves::raises_rests))]
-pub fn settle(targets: &[u8], from: &[u8], to: &[u8], p: &[u8], m: &mut [u8])
-    requires { (length m.old ≤ 255) × Tables (length m.old) targets.now p.now × Lists (length m.old) from.now to.now }
-    ensures { Rests (length m.old) targets.now p.now from.now to.now m.old m.new }
-{
-    loop {
-        let moved = pass(targets, from, to, p, m);
-        if !moved {
-            return;
+    // If s is k at least, t is raised to k.
+    fn flow(&mut self, s: u8, t: u8, k: u8)
+        requires source { Ref (length self.old.kinds.now) s }
+        requires target { Ref (length self.old.kinds.now) t }
+        requires kind { k ≤ 2 }
+        ensures { Sees (λ w. Edge w s t k) self.old self.new }
+    {
+        let i = usize::from(s) - 1;
+        let j = usize::from(t) - 1;
+        if k <= self.kinds[i] && self.kinds[j] < k {
+            self.kinds[j] = k;
+            self.moved = true;
         }
+    }
+
+    // t is raised to the kind of s.
+    fn upward(&mut self, s: u8, t: u8)
+        requires source { Ref (length self.old.kinds.now) s }
+        requires target { Ref (length self.old.kinds.now) t }
+        ensures { Sees (λ w. Upward w s t) self.old self.new }
+    {
+        self.flow(s, t, SEQ);
+        self.flow(s, t, DYNAMIC);
+    }
+
+    // s and its link t, where it has one, are raised to one kind.
+    fn level(&mut self, s: u8, t: u8)
+        requires source { Ref (length self.old.kinds.now) s }
+        requires link { t ≤ length self.old.kinds.now }
+        ensures { Sees (λ w. Level w s t) self.old self.new }
+    {
+        if t != 0 {
+            self.upward(s, t);
+            self.upward(t, s);
+        }
+    }
+
+    // DYNAMIC goes down from s to its target t, where that is a reference.
+    fn down(&mut self, s: u8, t: u8)
+        requires source { Ref (length self.old.kinds.now) s }
+        requires target { t ≤ length self.old.kinds.now }
+        ensures { Sees (λ w. Edge w s t 2) self.old self.new }
+    {
+        if t != 0 {
+            self.flow(s, t, DYNAMIC);
+        }
+    }
+
+    // One conversion, as far as its own two kinds go. SEQ goes back to the source only.
+    fn outer(&mut self, c: Conversion)
+        requires { Between (length self.old.kinds.now) c }
+        ensures { Sees (λ w. Outer w c) self.old self.new }
+    {
+        self.upward(c.to, c.from);
+        self.flow(c.from, c.to, DYNAMIC);
+    }
+}
+
+impl<'a> Graph<'a> {
+    ghost use Rattle.raise.specs.Raising.{Sees};
+
+    // One type: its link and its target.
+    fn row(&self, r: &mut Raising, x: u8)
+        requires reference { Ref self.now.types x }
+        requires entries { length r.old.kinds.now ≡ self.now.types }
+        ensures { Sees (λ w. Row self.now.targets.now self.now.links.now w x) r.old r.new }
+    {
+        let i = usize::from(x);
+        r.level(x, self.links[i]);
+        r.down(x, self.targets[i]);
+    }
+
+    // Every type: from the top down, and in step from the bottom up.
+    fn rows(&self, r: &mut Raising)
+        requires { length r.old.kinds.now ≡ self.now.types }
+        ensures { Sees (Rows self.now.types self.now.targets.now self.now.links.now) r.old r.new }
+    {
+        for i in 0..self.types {
+            self.row(r, self.types - i);
+            self.row(r, i + 1);
+        }
+    }
+
+    // Every conversion.
+    fn outers(&self, r: &mut Raising)
+        requires { length r.old.kinds.now ≡ self.now.types }
+        ensures { Sees (Outers self.now.conversions.now) r.old r.new }
+    {
+        for c in self.conversions {
+            r.outer(*c);
+        }
+    }
+
+    // Everything once. Tells whether any kind rose.
+    fn pass(&self, m: &mut [u8]) -> bool
+        requires { length m.old ≡ self.now.types }
+        ensures { Meets (Whole self.now.types self.now.targets.now self.now.links.now self.now.conversions.now) m.old m.new false result }
+    {
+        let mut r = Raising {
+            kinds: m,
+            moved: false,
+        };
+        self.rows(&mut r);
+        self.outers(&mut r);
+        r.moved
+    }
+
+    // Until nothing moves.
+    pub fn settle(&self, m: &mut [u8])
+        requires { length m.old ≡ self.now.types }
+        ensures { Rests self.now.types self.now.targets.now self.now.links.now self.now.conversions.now m.old m.new }
+    {
+        while self.pass(m) {}
     }
 }

@@ -1,40 +1,31 @@
 // The sections front to back: refusals 1 to 4 as they are met, then 5.
 // A section has at most 2 + 7 * 1,024 = 7,170 bytes, so the sections start and end within multiples of that, and every place fits.
-ghost use Rattle.std.specs.Prelude.{◌≡◌, ◌+◌, ◌*◌, ◌≤◌, length};
-ghost use Rattle.rules.specs.Calls.{read_says};
+ghost use Rattle.std.specs.Prelude.{◌≡◌, ◌≤◌, length};
+ghost use Rattle.rules.specs.Calls.{says};
 ghost use Rattle.rules.specs.Reading.{row_bytes, fewest, most, sections, reading};
 ghost use Rattle.laws.specs.WellRead.{Placed};
-ghost use Rattle.reader.specs.Steps.{Sighted, RowsRead, SectionRead, from_homes, from_exprs, from_commands, from_cells, from_end, from_values};
+ghost use Rattle.reader.specs.Steps.{Sighted, RowsRead, SectionRead, from_cells, from_values};
 
-use super::range::{half_at, in_range, row_good};
-use rules::{ReadAnswer, Refusal, Section, Starts};
+use super::range::row_good;
+use rules::{Fault, Refusal, Section, Starts};
+use view::{half_at, home_place};
 
-// How a part of the reading ends: at the place behind it, with a count of rows; or in a refusal.
+// How a section is passed: the place behind it, and its count of rows.
 #[derive(Clone, Copy)]
-pub enum Step {
-    Next(usize, usize),
-    No(Refusal),
-}
-
-// A refusal as a step.
-fn no(number: u32, place: usize) -> Step
-    requires { place ≤ 30000 }
-    ensures { result ≡ Step.No (record { number = number; place = place }) }
-{
-    Step::No(Refusal {
-        number,
-        place: place as u32,
-    })
+pub struct Passed {
+    pub end: usize,
+    pub rows: usize,
 }
 
 // The bytes of a row.
 fn bytes_of(part: Section) -> usize
-    ensures { (result ≡ row_bytes part) × (result ≤ 8) }
+    ensures means { result ≡ row_bytes part }
+    ensures few { result ≤ 8 }
 {
     match part {
         Section::Types => 2,
         Section::Homes(_) => 4,
-        Section::Exprs(_, _) => 5,
+        Section::Exprs(..) => 5,
         Section::Commands(_) => 7,
         Section::Values(_) => 8,
     }
@@ -45,173 +36,124 @@ fn fewest_of(part: Section) -> usize
     ensures { result ≡ fewest part }
 {
     match part {
-        Section::Types => 0,
-        Section::Homes(_) => 0,
-        Section::Exprs(_, _) => 0,
         Section::Commands(_) => 1,
-        Section::Values(_) => 0,
+        Section::Types | Section::Homes(_) | Section::Exprs(..) | Section::Values(_) => 0,
     }
 }
 
 // The most rows that a section may have.
 fn most_of(part: Section) -> usize
-    ensures { (result ≡ most part) × (result ≤ 1024) }
+    ensures means { result ≡ most part }
+    ensures few { result ≤ 1024 }
 {
     match part {
         Section::Types => 255,
         Section::Homes(_) => 64,
-        Section::Exprs(_, _) => 1024,
-        Section::Commands(_) => 1024,
+        Section::Exprs(..) | Section::Commands(_) => 1024,
         Section::Values(_) => 256,
     }
 }
 
-// The `n` rows of a section, from place `q` on.
-fn rows(s: &[u8], part: Section, q: usize, n: usize) -> Step
-    requires { (q ≤ 21512) × (n ≤ 1024) × (q ≤ length s.now) × Sighted s.now part }
-    ensures { RowsRead s.now part q n result }
+// The `n` rows of a section, from `place` on.
+fn rows(file: &[u8], part: Section, place: usize, n: usize) -> Result<Passed, Refusal>
+    requires early { place ≤ 21512 }
+    requires few { n ≤ 1024 }
+    requires inside { place ≤ length file.now }
+    requires sighted { Sighted file.now part }
+    ensures { RowsRead file.now part place n result }
 {
-    let w = bytes_of(part);
-    let mut i = 0;
-    let mut at = q;
-    while i < n {
-        if s.len() < at + w {
-            return no(1, at);
+    let width = bytes_of(part);
+    // A sum: with `place + width * i` reading took a quarter longer.
+    let mut at = place;
+    for i in 0..n {
+        if file.len() < at + width {
+            return Err(Refusal::new(Fault::Short, at));
         }
-        if !row_good(s, part, i, at) {
-            return no(3, at);
+        if !row_good(file, part, i, at) {
+            return Err(Refusal::new(Fault::Row, at));
         }
-        i += 1;
-        at += w;
+        at += width;
     }
-    Step::Next(at, n)
+    Ok(Passed { end: at, rows: n })
 }
 
-// The section whose count stands at place `q`.
-fn section(s: &[u8], part: Section, q: usize) -> Step
-    requires { (q ≤ 21510) × Sighted s.now part }
-    ensures { SectionRead s.now part q result }
+// The section whose count stands at `place`.
+#[tactic(auto, unfolding(rules::specs::Reading::section))]
+fn section(file: &[u8], part: Section, place: usize) -> Result<Passed, Refusal>
+    requires early { place ≤ 21510 }
+    requires sighted { Sighted file.now part }
+    ensures { SectionRead file.now part place result }
 {
-    if s.len() < q + 2 {
-        return no(1, q);
+    if file.len() < place + 2 {
+        return Err(Refusal::new(Fault::Short, place));
     }
-    let n = half_at(s, q);
-    if !in_range(fewest_of(part), n, most_of(part)) {
-        return no(2, q);
+    let n = half_at(file, place) as usize;
+    if !(fewest_of(part)..=most_of(part)).contains(&n) {
+        return Err(Refusal::new(Fault::Count, place));
     }
-    rows(s, part, q + 2, n)
-}
-
-// From the commands' count on, at `c`.
-fn from_commands(s: &[u8], h: usize, e: usize, c: usize, exprs: usize) -> ReadAnswer
-    requires { (h ≤ 7170) × (e ≤ 14340) × (c ≤ 21510) }
-    ensures { read_says result ≡ from_commands s.now h e c exprs }
-{
-    match section(s, Section::Commands(exprs), c) {
-        Step::Next(v, _) => ReadAnswer::WellFormed(Starts {
-            types: 0,
-            homes: h as u32,
-            exprs: e as u32,
-            commands: c as u32,
-            values: v as u32,
-        }),
-        Step::No(n) => ReadAnswer::Refused(n),
-    }
-}
-
-// From the expressions' count on, at `e`.
-fn from_exprs(s: &[u8], h: usize, e: usize, types: usize, homes: usize) -> ReadAnswer
-    requires { (h ≤ 7170) × (e ≤ 14340) }
-    ensures { read_says result ≡ from_exprs s.now h e types homes }
-{
-    match section(s, Section::Exprs(types, homes), e) {
-        Step::Next(c, exprs) => from_commands(s, h, e, c, exprs),
-        Step::No(n) => ReadAnswer::Refused(n),
-    }
-}
-
-// From the homes' count on, at `h`.
-fn from_homes(s: &[u8], h: usize, types: usize) -> ReadAnswer
-    requires { h ≤ 7170 }
-    ensures { read_says result ≡ from_homes s.now h types }
-{
-    match section(s, Section::Homes(types), h) {
-        Step::Next(e, homes) => from_exprs(s, h, e, types, homes),
-        Step::No(n) => ReadAnswer::Refused(n),
-    }
+    rows(file, part, place + 2, n)
 }
 
 // The four sections that every file has.
-fn four(s: &[u8]) -> ReadAnswer
-    ensures { read_says result ≡ sections s.now }
+#[tactic(auto, unfolding(rules::specs::Reading::sections))]
+fn four(file: &[u8]) -> Result<Starts, Refusal>
+    ensures { says result ≡ sections file.now }
 {
-    match section(s, Section::Types, 0) {
-        Step::Next(h, types) => from_homes(s, h, types),
-        Step::No(n) => ReadAnswer::Refused(n),
-    }
+    let types = section(file, Section::Types, 0)?;
+    let homes = section(file, Section::Homes(types.rows), types.end)?;
+    let exprs = section(file, Section::Exprs(types.rows, homes.rows), homes.end)?;
+    let commands = section(file, Section::Commands(exprs.rows), exprs.end)?;
+    Ok(Starts {
+        types: 0,
+        homes: types.end as u32,
+        exprs: homes.end as u32,
+        commands: exprs.end as u32,
+        values: commands.end as u32,
+    })
 }
 
 // The cells of the homes: the answer for a file whose five sections are read.
-fn cells(s: &[u8], at: Starts) -> ReadAnswer
-    requires { Placed s.now at }
-    ensures { read_says result ≡ from_cells s.now at }
+#[tactic(auto, unfolding(rules::specs::Reading::cells))]
+fn cells(file: &[u8], at: Starts) -> Result<Starts, Refusal>
+    requires { Placed file.now at }
+    ensures { says result ≡ from_cells file.now at }
 {
-    let h = at.homes as usize;
-    let n = half_at(s, h);
-    let mut i = 0;
-    let mut q = h + 2;
+    let n = half_at(file, at.homes as usize) as usize;
     let mut total = 0;
-    while i < n {
-        let size = half_at(s, q + 2);
+    // Of `1..=n` the proof did not close: see `runner`.
+    for g in 1..n + 1 {
+        let place = home_place(at, g);
+        let size = half_at(file, place + 2) as usize;
         if 4096 < total + size {
-            return ReadAnswer::Refused(Refusal {
-                number: 5,
-                place: q as u32,
-            });
+            return Err(Refusal::new(Fault::Cells, place));
         }
         total += size;
-        i += 1;
-        q += 4;
     }
-    ReadAnswer::WellFormed(at)
+    Ok(at)
 }
 
-// Behind the start values, at `end`: no spare byte, then the cells.
-fn from_end(s: &[u8], at: Starts, end: usize) -> ReadAnswer
-    requires { Placed s.now at × (end ≤ 30000) }
-    ensures { read_says result ≡ from_end s.now at end }
+// Behind the commands: the start values, if a byte follows; then no spare byte, and the cells.
+#[tactic(auto, unfolding(rules::specs::Reading::fifth))]
+fn from_values(file: &[u8], at: Starts) -> Result<Starts, Refusal>
+    requires { Placed file.now at }
+    ensures { says result ≡ from_values file.now at }
 {
-    if end != s.len() {
-        return ReadAnswer::Refused(Refusal {
-            number: 4,
-            place: end as u32,
-        });
+    let values = at.values as usize;
+    if values == file.len() {
+        return cells(file, at);
     }
-    cells(s, at)
-}
-
-// Behind the commands: the start values, if a byte follows.
-fn from_values(s: &[u8], at: Starts) -> ReadAnswer
-    requires { Placed s.now at }
-    ensures { read_says result ≡ from_values s.now at }
-{
-    let v = at.values as usize;
-    if v == s.len() {
-        return cells(s, at);
+    let end = section(file, Section::Values(at.homes as usize), values)?.end;
+    if end != file.len() {
+        return Err(Refusal::new(Fault::Spare, end));
     }
-    match section(s, Section::Values(at.homes as usize), v) {
-        Step::Next(end, _) => from_end(s, at, end),
-        Step::No(n) => ReadAnswer::Refused(n),
-    }
+    cells(file, at)
 }
 
 // The whole file.
-pub fn whole(file: &[u8]) -> ReadAnswer
-    ensures { read_says result ≡ reading file.now }
+#[tactic(auto, unfolding(rules::specs::Reading::reading))]
+pub fn whole(file: &[u8]) -> Result<Starts, Refusal>
+    ensures { says result ≡ reading file.now }
 {
-    let found = four(file);
-    let ReadAnswer::WellFormed(at) = found else {
-        return found;
-    };
+    let at = four(file)?;
     from_values(file, at)
 }

@@ -1,17 +1,12 @@
 -- What each call answers, and each lent entry afterwards (RULES 2). The contracts of the calls cite these definitions.
-use Rattle.std.specs.Prelude.{◌≡◌, ℕ, List, ◌++◌, length, drop, leb}
+use Rattle.std.specs.Prelude.{◌≡◌, ℕ, List, ◌++◌, length, drop, leb, Result, Ok, Err}
 use Rattle.rules.specs.declared.Starts.{Starts}
 use Rattle.rules.specs.declared.Refusal.{Refusal}
-use Rattle.rules.specs.declared.ReadAnswer.{ReadAnswer}
-use Rattle.rules.specs.declared.ReadAnswer.TheVariants as reads
-use Rattle.rules.specs.declared.CheckAnswer.{CheckAnswer}
-use Rattle.rules.specs.declared.CheckAnswer.TheVariants as checks
-use Rattle.rules.specs.declared.InferAnswer.{InferAnswer}
-use Rattle.rules.specs.declared.InferAnswer.TheVariants as infers
+use Rattle.rules.specs.declared.Fault.{Fault}
+use Rattle.rules.specs.declared.Fault.TheVariants.{Short, Count, Row, Spare, Cells, Shape, Marking, Kinds, Lent, Order}
 use Rattle.rules.specs.declared.Outcome.{Outcome}
 use Rattle.rules.specs.declared.Outcome.TheVariants.{Done, Fuel, Check}
-use Rattle.rules.specs.declared.RunAnswer.{RunAnswer}
-use Rattle.rules.specs.declared.RunAnswer.TheVariants as runs
+use Rattle.rules.specs.declared.Report.{Report}
 use Rattle.rules.specs.Basic.{Verdict, fine, refused, unless_refused, guard}
 use Rattle.rules.specs.Table.{Routine, routine, total}
 use Rattle.rules.specs.Reading.{reading, rising}
@@ -106,28 +101,34 @@ reported x =
 unfoldable pub running : List ℕ → List ℕ → ℕ → List ℕ → Left Ended
 running s m fuel lent = or_leave (runnable s m lent) lent λ at. reported (run (routine s at) m lent fuel)
 
--- ---- what the code's enums say
+-- ---- what the code's answers say
+
+-- The number of a refusal (RULES 2.1).
+abbrev pub fault_number : Fault → ℕ
+fault_number Short = 1
+fault_number Count = 2
+fault_number Row = 3
+fault_number Spare = 4
+fault_number Cells = 5
+fault_number Shape = 6
+fault_number Marking = 7
+fault_number Kinds = 8
+fault_number Lent = 9
+fault_number Order = 10
 
 abbrev pub refusal : {X : Type 0} → Refusal → Verdict X
-refusal n = refused n.number n.place
+refusal n = refused (fault_number n.fault) n.place
 
-abbrev pub read_says : ReadAnswer → Verdict Starts
-read_says (reads.WellFormed at) = fine at
-read_says (reads.Refused n) = refusal n
-
-abbrev pub check_says : CheckAnswer → Verdict (Unit {0})
-check_says checks.Accepted = fine tt
-check_says (checks.Refused n) = refusal n
-
-abbrev pub infer_says : InferAnswer → Verdict (Unit {0})
-infer_says infers.Marked = fine tt
-infer_says (infers.Refused n) = refusal n
+-- Of reading, with where the sections start, and of checking and inference, with nothing:
+abbrev pub says : {X : Type 0} → Result X Refusal → Verdict X
+says (Ok x) = fine x
+says (Err n) = refusal n
 
 abbrev pub outcome_says : Outcome → Ending
 outcome_says Done = finished
 outcome_says (Fuel p) = out_of_fuel p
-outcome_says (Check n p) = failed_check n p
+outcome_says (Check c p) = failed_check (check_number c) p
 
-abbrev pub run_says : RunAnswer → Verdict Ended
-run_says (runs.Ran x) = fine (record { ending = outcome_says x.outcome; units = x.units })
-run_says (runs.Refused n) = refusal n
+abbrev pub run_says : Result Report Refusal → Verdict Ended
+run_says (Ok x) = fine (record { ending = outcome_says x.outcome; units = x.units })
+run_says (Err n) = refusal n

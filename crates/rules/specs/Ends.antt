@@ -1,7 +1,7 @@
 -- How a run ends that is not stuck, and the fuel that it leaves.
 use Rattle.std.specs.Prelude.{ℕ}
 use Rattle.rules.specs.Memory.{State}
-use Rattle.rules.specs.Ruled.{Check}
+use Rattle.rules.specs.declared.Check.{Check}
 use Rattle.rules.specs.Run.{Stop, no_fuel, failed, no_rule, Ran, done, halted}
 
 -- No fuel, or a check 1 to 4: not stuck.

@@ -17,6 +17,7 @@ pub mod Ends
 pub mod Valid
 pub mod Made
 pub mod Calls
+pub mod Text
 pub mod Tests
 pub mod Tested
 pub mod Cases

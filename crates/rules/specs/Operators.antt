@@ -3,11 +3,12 @@ use Rattle.std.specs.Prelude.{ℕ, zero, suc, ◌+◌, ◌*◌, ◌-◌, ◌/◌
 use Rattle.std.specs.Int.Bits.{bit_and}
 use Rattle.rules.specs.Basic.{choose, width}
 use Rattle.rules.specs.Table.{Operator, plus, minus, times, over, rest, equal, less, both, right}
-use Rattle.rules.specs.Ruled.{Ruled, gives, fails, check4}
+use Rattle.rules.specs.declared.Check.TheVariants.{ByZero}
+use Rattle.rules.specs.Ruled.{Ruled, gives, fails}
 
 -- A zero divisor is check 4.
 abbrev pub divided : ℕ → (ℕ → ℕ) → Ruled ℕ
-divided zero q = fails check4
+divided zero q = fails ByZero
 divided (suc y) q = gives (q (suc y))
 
 abbrev pub bit : Bool → ℕ

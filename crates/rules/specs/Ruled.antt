@@ -1,15 +1,14 @@
 -- What a rule for values says. It knows neither fuel nor place.
 use Rattle.std.specs.Prelude.{ℕ, Bool, true, false}
+use Rattle.rules.specs.declared.Check.{Check}
+use Rattle.rules.specs.declared.Check.TheVariants.{Null, Bounds, NoHome, ByZero}
 
 -- RULES 6.4
-pub data Check : Type 0 where
-  check1 check2 check3 check4 : Check
-
 abbrev pub check_number : Check → ℕ
-check_number check1 = 1
-check_number check2 = 2
-check_number check3 = 3
-check_number check4 = 4
+check_number Null = 1
+check_number Bounds = 2
+check_number NoHome = 3
+check_number ByZero = 4
 
 -- A rule gives something, or a check of it fails, or no rule covers the form: stuck (RULES 5.9).
 pub data Ruled (X : Type 0) : Type 0 where

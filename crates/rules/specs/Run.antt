@@ -8,7 +8,8 @@ use Rattle.rules.specs.Shape.{home_at, type_of}
 use Rattle.rules.specs.Kinds.{kind}
 use Rattle.rules.specs.Steps.{entered, looked, stored, Told, quiet, after, tell}
 use Rattle.rules.specs.Memory.{State, cell, put}
-use Rattle.rules.specs.Ruled.{Check, Ruled, gives, fails, stuck}
+use Rattle.rules.specs.declared.Check.{Check}
+use Rattle.rules.specs.Ruled.{Ruled, gives, fails, stuck}
 use Rattle.rules.specs.Start.{start}
 use Rattle.rules.specs.Values.{convert, home_value, null_value, moved, operated, truth, reach, fetched, kept}
 

@@ -9,7 +9,8 @@ use Rattle.rules.specs.declared.Kind.{Kind}
 use Rattle.rules.specs.declared.Kind.TheVariants.{int, SAFE, SEQ, DYNAMIC}
 use Rattle.rules.specs.Kinds.{by_kind}
 use Rattle.rules.specs.Memory.{State, address, size, held}
-use Rattle.rules.specs.Ruled.{Ruled, gives, fails, stuck, onward, must, check1, check2, check3}
+use Rattle.rules.specs.declared.Check.TheVariants.{Null, Bounds, NoHome}
+use Rattle.rules.specs.Ruled.{Ruled, gives, fails, stuck, onward, must}
 use Rattle.rules.specs.Operators.{applied}
 
 -- RULES 5.3: conversion, by the kind of the type converted to.
@@ -17,7 +18,7 @@ abbrev pub convert : State → Kind → Value → Ruled Value
 convert w int (Number n) = gives (Number n)
 convert w int (Pair g n) = gives (Number (address w g n))
 convert w SAFE (Number n) = gives (Number n)
-convert w SAFE (Pair g n) = must check2 (ltb n (size w g)) (gives (Number (address w g n)))
+convert w SAFE (Pair g n) = must Bounds (ltb n (size w g)) (gives (Number (address w g n)))
 convert w SEQ (Number n) = gives (Pair 0 n)
 convert w SEQ (Pair g n) = gives (Pair g n)
 convert w DYNAMIC (Number n) = gives (Pair 0 n)
@@ -58,7 +59,7 @@ truth (Pair g n) = stuck
 
 -- Through SAFE, by an address.
 abbrev pub reach_safe : State → Value → Ruled ℕ
-reach_safe w (Number zero) = fails check1
+reach_safe w (Number zero) = fails Null
 reach_safe w (Number (suc a)) = choose (held w.homes (suc a)) (λ _. gives (suc a)) (λ _. stuck)
 reach_safe w (Pair g n) = stuck
 
@@ -68,8 +69,8 @@ reach w int v = stuck
 reach w SAFE v = reach_safe w v
 reach w SEQ v = onward (convert w SAFE v) λ u. reach_safe w u
 reach w DYNAMIC (Number n) = stuck
-reach w DYNAMIC (Pair zero n) = fails check3
-reach w DYNAMIC (Pair (suc g) n) = must check2 (ltb n (size w (suc g))) (reach_safe w (Number (address w (suc g) n)))
+reach w DYNAMIC (Pair zero n) = fails NoHome
+reach w DYNAMIC (Pair (suc g) n) = must Bounds (ltb n (size w (suc g))) (reach_safe w (Number (address w (suc g) n)))
 
 -- RULES 5.8: a cell as it is read through a pointer of the first kind to a target of the second.
 abbrev pub fetched : State → Kind → Kind → Value → Ruled Value

@@ -1,86 +1,83 @@
 -- The run of a file and a marking that earn no refusal: the table stands for its routine, the starting memory is valid, and the report is the run's.
 use mathlib.Core.Path.{◌≡◌, refl, sym, ap, ◌∙◌}
-use Prim.Native.Nat.{ℕ, zero, suc, ◌+◌, ◌-◌, ◌<◌, ◌≤◌}
+use Prim.Native.Nat.{ℕ, suc, ◌+◌, ◌-◌, ◌<◌, ◌≤◌}
 use native.Mathlib.Omega.{arith}
 use mathlib.Core.List.{List}
 use lib.ListN.{length, length-append}
 use Rattle.rules.specs.declared.Starts.{Starts}
 use Rattle.rules.specs.declared.Report.{Report}
-use Rattle.rules.specs.declared.RunAnswer.TheVariants as runs
+use Rattle.std.specs.Prelude.{Result, Ok, Err}
+use Rattle.evaluate.specs.declared.Stop.{Stop}
+use Rattle.evaluate.specs.declared.Cause.{Cause}
+use Rattle.evaluate.specs.declared.Cause.TheVariants as cause
 use Rattle.rules.specs.Basic.{half}
 use Rattle.rules.specs.Steps.{units}
 use Rattle.rules.specs.Table.{Home, Routine, routine}
 use Rattle.rules.specs.Start.{start, cleared, given}
-use Rattle.rules.specs.Run.{exec, run}
-use Rattle.rules.specs.Calls.{ending_of, state_of, Left, Ended, outcome_says, run_says, reported, cell_count}
-use Rattle.rules.specs.Ends.{Ends, at_stop, left_after}
+use Rattle.rules.specs.Run.{halted, exec, run}
+use Rattle.rules.specs.Calls.{stop_ending, ending_of, state_of, Left, Ended, outcome_says, run_says, reported, cell_count}
+use Rattle.rules.specs.Ends.{left_after}
 use Rattle.laws.specs.Start.{start_ok, length_start}
-use Rattle.laws.specs.Sound.{exec_ok}
 use Rattle.laws.specs.Units.{exec_spends}
 use Rattle.words.specs.Words.{RowWords, HomeWords}
 use Rattle.laws.specs.WellRead.{WellRead}
 use Rattle.filling.specs.Filling.{Accepted, CommandsDone}
-use Rattle.filling.proofs.Words.{known, well, fit}
-use Rattle.evaluate.specs.Rows.{failing}
-use Rattle.execute.specs.declared.Ran.{Ran}
-use Rattle.execute.specs.declared.Ran.TheVariants.{Done, Fuel, Check}
+use Rattle.filling.proofs.Accepted.{fit}
+use Rattle.laws.specs.Formed.{Formed}
+use Rattle.evaluate.specs.Rows.{cause_told}
 use Rattle.execute.specs.Commands.{ran_told, Commanded, meant_run}
-use Rattle.runner.specs.Whole.{place_at, report_of, Reportable}
+use Rattle.runner.specs.Whole.{place_at, stop_report, report_of, LeftOf, Reportable}
 use Rattle.runner.proofs.Places.{place_in, RanAt, exec_at}
 
 -- ---- the code's answer, as the report says it
-
-failing_place : (n p f : ℕ) → place_in (failing n p f) ≡ p
-failing_place zero p f = refl
-failing_place (suc zero) p f = refl
-failing_place (suc (suc zero)) p f = refl
-failing_place (suc (suc (suc zero))) p f = refl
-failing_place (suc (suc (suc (suc zero)))) p f = refl
-failing_place (suc (suc (suc (suc (suc n))))) p f = refl
 
 module _ (s : List ℕ) (at : Starts) (hs : List Home) (memory : List ℕ) where
   abbrev R : Routine
   R = routine s at
 
-  says_ending : (x : Ran) (fuel : ℕ) → Ends (ran_told R hs x memory) → outcome_says (report_of at x fuel).outcome ≡ ending_of (ran_told R hs x memory)
-  says_ending (Done f) fuel y = refl
-  says_ending (Fuel i) fuel y = refl
-  says_ending (Check zero i f) fuel (at_stop y) = elim y [ ]
-  says_ending (Check (suc zero) i f) fuel y = refl
-  says_ending (Check (suc (suc zero)) i f) fuel y = refl
-  says_ending (Check (suc (suc (suc zero))) i f) fuel y = refl
-  says_ending (Check (suc (suc (suc (suc zero)))) i f) fuel y = refl
-  says_ending (Check (suc (suc (suc (suc (suc n))))) i f) fuel (at_stop y) = elim y [ ]
+  says_ending : (x : Result ℕ Stop) (fuel : ℕ) → outcome_says (report_of at x fuel).outcome ≡ ending_of (ran_told R hs x memory)
+  says_ending (Ok f) fuel = refl
+  says_ending (Err s) fuel = go s.cause
+    where
+      go : (c : Cause) → outcome_says (stop_report (place_at at s.row) c fuel).outcome ≡ stop_ending (cause_told (place_at at s.row) c)
+      go cause.Fuel = refl
+      go (cause.Check k f) = refl
 
-  abbrev left : Ran → ℕ
-  left (Done f) = f
-  left (Fuel i) = 0
-  left (Check n i f) = f
+  abbrev left_of : Cause → ℕ
+  left_of cause.Fuel = 0
+  left_of (cause.Check c f) = f
 
-  left_is : (x : Ran) → left_after (ran_told R hs x memory) ≡ left x
-  left_is (Done f) = refl
-  left_is (Fuel i) = refl
-  left_is (Check zero i f) = refl
-  left_is (Check (suc zero) i f) = refl
-  left_is (Check (suc (suc zero)) i f) = refl
-  left_is (Check (suc (suc (suc zero))) i f) = refl
-  left_is (Check (suc (suc (suc (suc zero)))) i f) = refl
-  left_is (Check (suc (suc (suc (suc (suc n))))) i f) = refl
+  abbrev left : Result ℕ Stop → ℕ
+  left (Ok f) = f
+  left (Err s) = left_of s.cause
 
-  says_units : (x : Ran) (fuel n : ℕ) → n + left x ≡ fuel → (report_of at x fuel).units ≡ n
-  says_units (Done f) fuel n h = omega arith
-  says_units (Fuel i) fuel n h = omega arith
-  says_units (Check k i f) fuel n h = omega arith
+  left_is : (x : Result ℕ Stop) → left_after (ran_told R hs x memory) ≡ left x
+  left_is (Ok f) = refl
+  left_is (Err s) = go s.cause
+    where
+      go : (c : Cause) → left_after (halted (record { homes = hs; memory = memory }) (cause_told (place_at at s.row) c)) ≡ left_of c
+      go cause.Fuel = refl
+      go (cause.Check k f) = refl
 
-  says_memory : (x : Ran) → (state_of (ran_told R hs x memory)).memory ≡ memory
-  says_memory (Done f) = refl
-  says_memory (Fuel i) = refl
-  says_memory (Check n i f) = refl
+  says_units : (x : Result ℕ Stop) (fuel n : ℕ) → n + left x ≡ fuel → (report_of at x fuel).units ≡ n
+  says_units (Ok f) fuel n h = omega arith
+  says_units (Err s) fuel n h = go s.cause h
+    where
+      go : (c : Cause) → n + left_of c ≡ fuel → (stop_report (place_at at s.row) c fuel).units ≡ n
+      go cause.Fuel h = omega arith
+      go (cause.Check k f) h = omega arith
 
-  reports : (x : Ran) (fuel : ℕ) → RanAt (λ p. p < 4294967296) (ran_told R hs x memory) → left x ≤ fuel → Reportable at x fuel
-  reports (Done f) fuel y h = h
-  reports (Fuel i) fuel y h = y
-  reports (Check n i f) fuel y h = (rw (failing_place n (place_at at i) f) at y, h)
+  says_memory : (x : Result ℕ Stop) → (state_of (ran_told R hs x memory)).memory ≡ memory
+  says_memory (Ok f) = refl
+  says_memory (Err s) = refl
+
+  reports : (x : Result ℕ Stop) (fuel : ℕ) → RanAt (λ p. p < 4294967296) (ran_told R hs x memory) → left x ≤ fuel → Reportable at x fuel
+  reports (Ok f) fuel y h = h
+  reports (Err s) fuel y h = go s.cause y h
+    where
+      go : (c : Cause) → place_in (cause_told (place_at at s.row) c) < 4294967296 → left_of c ≤ fuel → (place_at at s.row < 4294967296) × LeftOf c fuel
+      go cause.Fuel y h = (y, tt)
+      go (cause.Check k f) y h = (y, h)
 
 -- ---- the starting memory
 
@@ -92,16 +89,16 @@ started r m lent l k e f = f ∙ ap (λ z. given r m r.values z) e
 
 -- ---- the whole
 
-module _ {s m ty t : List ℕ} {at : Starts} (y : Accepted s at m ty) (d : CommandsDone s at m (half s at.commands) t) where
+module _ {s m ty t : List ℕ} {at : Starts} (known : WellRead s at) (well : Formed (routine s at)) (y : Accepted s at m ty) (d : CommandsDone (routine s at) m (half s at.commands) t) where
   abbrev rows : RowWords t
   rows =
       record {
         routine = routine s at;
         marking = m;
-        formed = well y;
+        formed = well;
         accepted = fit y;
-        few_exprs = (known y).exprs.few;
-        few_commands = (known y).commands.few;
+        few_exprs = known.exprs.few;
+        few_commands = known.commands.few;
         exprs = d.exprs;
         commands = d.commands;
       }
@@ -110,16 +107,16 @@ module _ {s m ty t : List ℕ} {at : Starts} (y : Accepted s at m ty) (d : Comma
   homes = record { list = (routine s at).homes; words = d.homes; declared = λ g h. refl }
 
   some : 1 ≤ half s at.commands
-  some = (known y).commands.least
+  some = known.commands.least
 
   module _ (lent l : List ℕ) (b : l ≡ (start (routine s at) m lent).memory) (c : ℕ) (i : c ≡ half s at.commands - 1) where
     pub body_in : c < half s at.commands
     body_in = omega (arith, some, i)
 
     abbrev pub body : Commanded t l c
-    body = record { rows = rows; homes = homes; valid = rw b (start_ok (routine s at) m (well y) lent); inside = body_in }
+    body = record { rows = rows; homes = homes; valid = rw b (start_ok (routine s at) m well lent); inside = body_in }
 
-    module _ (fuel : ℕ) (x : Ran) (after : List ℕ) (right : (k : Commanded t l c) → ran_told k.rows.routine k.homes.list x after ≡ meant_run k fuel) where
+    module _ (fuel : ℕ) (x : Result ℕ Stop) (after : List ℕ) (right : (k : Commanded t l c) → ran_told k.rows.routine k.homes.list x after ≡ meant_run k fuel) where
       abbrev H : List Home
       H = (routine s at).homes
 
@@ -132,9 +129,6 @@ module _ {s m ty t : List ℕ} {at : Starts} (y : Accepted s at m ty) (d : Comma
       last : half s at.commands - 1 < half s at.commands
       last = omega (arith, some)
 
-      ended : Ends (ran_told (routine s at) H x after)
-      ended = rw is (exec_ok (well y) (fit y) (half s at.commands - 1) fuel last (start_ok (routine s at) m (well y) lent)).answer
-
       spent : units (run (routine s at) m lent fuel).steps + left s at H after x ≡ fuel
       spent =
           let e = (exec_spends (routine s at) m (suc (half s at.commands - 1)) (start (routine s at) m lent) (half s at.commands - 1) fuel).by in
@@ -143,8 +137,8 @@ module _ {s m ty t : List ℕ} {at : Starts} (y : Accepted s at m ty) (d : Comma
       -- The rows of a file stand in its bytes, of which there are few.
       placed : RanAt (λ p. p < 4294967296) (ran_told (routine s at) H x after)
       placed =
-          let k : WellRead s at = known y in
-          rw is (exec_at (λ p. p < 4294967296) m (well y)
+          let k : WellRead s at = known in
+          rw is (exec_at (λ p. p < 4294967296) m well
           (λ e l. omega (arith, l, k.types_at, k.types.few, k.homes_at, k.homes.few, k.exprs_at, k.exprs.few))
           (λ c l. omega (arith, l, k.types_at, k.types.few, k.homes_at, k.homes.few, k.exprs_at, k.exprs.few, k.commands_at, k.commands.few))
           (half s at.commands - 1) (start (routine s at) m lent) fuel last)
@@ -152,10 +146,10 @@ module _ {s m ty t : List ℕ} {at : Starts} (y : Accepted s at m ty) (d : Comma
       pub reportable : Reportable at x fuel
       reportable = reports s at H after x fuel placed (omega (arith, spent))
 
-      pub whole : (r : Report) → r ≡ report_of at x fuel → ◌≡◌ {A = Left Ended} (record { answer = run_says (runs.Ran r); lent = after }) (reported (run (routine s at) m lent fuel))
+      pub whole : (r : Report) → r ≡ report_of at x fuel → ◌≡◌ {A = Left Ended} (record { answer = run_says (Ok r); lent = after }) (reported (run (routine s at) m lent fuel))
       whole r e =
           let a : outcome_says r.outcome ≡ ending_of (run (routine s at) m lent fuel).answer
-          = ap (λ (z : Report). outcome_says z.outcome) e ∙ says_ending s at H after x fuel ended ∙ ap ending_of is in
+          = ap (λ (z : Report). outcome_says z.outcome) e ∙ says_ending s at H after x fuel ∙ ap ending_of is in
           let b : r.units ≡ units (run (routine s at) m lent fuel).steps
           = ap (λ (z : Report). z.units) e ∙ says_units s at H after x fuel _ spent in
           let c : after ≡ (state_of (run (routine s at) m lent fuel).answer).memory

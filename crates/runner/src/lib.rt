@@ -1,32 +1,26 @@
 // The run of a file under a marking: refusals, the table, the starting memory, the body, and the report.
 #![tactic(auto)]
 
-ghost use Rattle.std.specs.Prelude.{◌≡◌, ◌≤◌, ◌<◌, length};
-ghost use Rattle.rules.specs.Table.{routine};
+ghost use Rattle.std.specs.Prelude.{◌≡◌, ◌≤◌, ◌<◌, length, Ok};
 ghost use Rattle.rules.specs.Run.{run};
-ghost use Rattle.rules.specs.Basic.{half};
 ghost use Rattle.rules.specs.Calls.{cell_count, run_says, reported, running, Left, Ended};
-ghost use Rattle.laws.specs.WellRead.{WellRead};
-ghost use Rattle.filling.specs.Filling.{Accepted};
+ghost use Rattle.view.specs.Files.{routine_of};
 ghost use Rattle.runner.specs.Whole.{place_at, report_of, Reportable};
 
-use execute::Ran;
-use rules::{Outcome, ReadAnswer, Refusal, Report, RunAnswer, Starts};
+use evaluate::{Cause, Stop};
+use filling::AcceptedFile;
+use rules::{Fault, Outcome, Refusal, Report, Starts};
+use view::View;
 use words::WORDS;
 
-// ---- the cells that are needed
-
-// The cells of a file's homes.
-fn count(file: &[u8], at: Starts, n: usize) -> usize
-    requires { WellRead file.now at × (n ≡ half file.now at.homes) }
-    ensures { result ≡ cell_count (routine file.now at) }
+// The cells of a file's homes. Here as in all loops from 1, `1..=n` leaves a second way out, whose proof did not close.
+fn count(view: &View) -> usize
+    ensures { result ≡ cell_count (routine_of view.now) }
 {
-    let mut g: usize = 0;
-    let mut cells: usize = 0;
-    while g < n {
-        let row = view::home_row(file, at, g + 1);
-        cells = cells + row.size as usize;
-        g = g + 1;
+    let n = view.counts().homes as usize;
+    let mut cells = 0;
+    for g in 1..n + 1 {
+        cells += view.home_row(g).size as usize;
     }
     cells
 }
@@ -44,87 +38,63 @@ fn place(at: Starts, row: u32) -> u32
     view::command_place(at, row as usize - 1024) as u32
 }
 
-fn report(at: Starts, x: Ran, fuel: u32) -> Report
-    requires { Reportable at x fuel }
-    ensures { result ≡ report_of at x fuel }
+fn report(at: Starts, ran: Result<u32, Stop>, fuel: u32) -> Report
+    requires { Reportable at ran fuel }
+    ensures { result ≡ report_of at ran fuel }
 {
-    match x {
-        Ran::Done(left) => Report {
+    match ran {
+        Ok(left) => Report {
             outcome: Outcome::Done,
             units: fuel - left,
         },
-        Ran::Fuel(row) => Report {
-            outcome: Outcome::Fuel(place(at, row)),
-            units: fuel,
-        },
-        Ran::Check(k, row, left) => Report {
-            outcome: Outcome::Check(k, place(at, row)),
-            units: fuel - left,
+        Err(stop) => match stop.cause {
+            Cause::Fuel => Report {
+                outcome: Outcome::Fuel(place(at, stop.row)),
+                units: fuel,
+            },
+            Cause::Check(check, left) => Report {
+                outcome: Outcome::Check(check, place(at, stop.row)),
+                units: fuel - left,
+            },
         },
     }
 }
 
 // ---- the run
 
-// A run of a file and a marking that earn no refusal, in memory that has room for its cells; `ty` has the types of its expression rows.
-pub fn run_checked(
-    file: &[u8],
-    at: Starts,
-    marking: &[u8],
-    ty: &[u16; 1024],
-    fuel: u32,
-    memory: &mut [u64],
-) -> Report
-    requires { Accepted file.now at marking.now ty.now × (cell_count (routine file.now at) ≤ length memory.old) }
-    ensures { ◌≡◌ {A = Left Ended} (record { answer = run_says (RunAnswer.Ran result); lent = memory.new }) (reported (run (routine file.now at) marking.now memory.old fuel)) }
+// A run of a file and a marking that earn no refusal, in memory that has room for its cells, which ties the memory to the file and so stays a clause.
+pub fn run_checked(file: &AcceptedFile, fuel: u32, memory: &mut [u64]) -> Report
+    requires { cell_count (routine_of file.now.formed.view) ≤ length memory.old }
+    ensures { ◌≡◌ {A = Left Ended} (record { answer = run_says (Ok result); lent = memory.new }) (reported (run (routine_of file.now.formed.view) file.now.marking.now memory.old fuel)) }
 {
-    let mut t = [0u64; WORDS];
-    filling::fill(file, at, marking, ty, &mut t);
-    let n = view::row_counts(file, at);
-    starting::clear(file, at, marking, ty, n.homes as usize, memory);
-    starting::give(file, at, marking, ty, &t, memory);
-    let body = n.commands as u32 - 1;
-    let ran = execute::exec(&t, memory, body, fuel);
-    report(at, ran, fuel)
+    let view = &file.formed.view;
+    let mut table = [0u64; WORDS];
+    filling::fill(file, &mut table);
+    starting::clear(file, memory);
+    starting::give(file, &table, memory);
+    let body = view.counts().commands as u32 - 1;
+    let ran = execute::exec(&table, memory, body, fuel);
+    report(view.at, ran, fuel)
 }
 
 // The same in memory of any length: refusal 9.
 #[tactic(auto, using(crate::proofs::Calls::run_short), unfolding(rules::specs::Calls::running, rules::specs::Calls::runnable))]
-fn run_accepted(
-    file: &[u8],
-    at: Starts,
-    marking: &[u8],
-    ty: &[u16; 1024],
-    fuel: u32,
-    memory: &mut [u64],
-) -> RunAnswer
-    requires { Accepted file.now at marking.now ty.now }
-    ensures { ◌≡◌ {A = Left Ended} (record { answer = run_says result; lent = memory.new }) (running file.now marking.now fuel memory.old) }
+fn run_accepted(file: &AcceptedFile, fuel: u32, memory: &mut [u64]) -> Result<Report, Refusal>
+    ensures { ◌≡◌ {A = Left Ended} (record { answer = run_says result; lent = memory.new }) (running file.now.formed.view.bytes.now file.now.marking.now fuel memory.old) }
 {
-    let n = view::row_counts(file, at);
-    let needed = count(file, at, n.homes as usize);
+    let needed = count(&file.formed.view);
     if memory.len() < needed {
-        return RunAnswer::Refused(Refusal {
-            number: 9,
-            place: needed as u32,
-        });
+        return Err(Refusal::new(Fault::Lent, needed));
     }
-    let report = run_checked(file, at, marking, ty, fuel, memory);
-    RunAnswer::Ran(report)
+    Ok(run_checked(file, fuel, memory))
 }
 
 // A file is run under a marking, with this fuel, in lent memory. A refused call writes nothing.
-pub fn run(file: &[u8], marking: &[u8], fuel: u32, memory: &mut [u64]) -> RunAnswer
+pub fn run(file: &[u8], marking: &[u8], fuel: u32, memory: &mut [u64]) -> Result<Report, Refusal>
     ensures { ◌≡◌ {A = Left Ended} (record { answer = run_says result; lent = memory.new }) (running file.now marking.now fuel memory.old) }
 {
-    let mut ty = [0u16; 1024];
-    let judged = checker::check_typed(file, marking, &mut ty);
-    match judged {
-        ReadAnswer::Refused(n) => {
-            return RunAnswer::Refused(n);
-        }
-        ReadAnswer::WellFormed(at) => {
-            return run_accepted(file, at, marking, &ty, fuel, memory);
-        }
-    }
+    let mut types = [0u16; 1024];
+    let at = checker::check_typed(file, marking, &mut types)?;
+    let accepted = AcceptedFile::new(file, at, &types, marking);
+    run_accepted(&accepted, fuel, memory)
 }

@@ -2,13 +2,12 @@
 #![tactic(auto)]
 
 ghost use Rattle.std.specs.Prelude.{◌≡◌};
-ghost use Rattle.rules.specs.Basic.{refused};
 ghost use Rattle.rules.specs.Calls.{formed, checking, running, outcome_says};
-ghost use Rattle.sledkindle.specs.Exports.{plain, plain_ran, ending_number, ending_place, InferredAs, RanAs};
+ghost use Rattle.sledkindle.specs.Exports.{plain, ending_number, ending_place, InferredAs, RanAs};
 
-use rules::{CheckAnswer, InferAnswer, Outcome, ReadAnswer, Report, RunAnswer};
+use rules::{Outcome, Refusal, Report};
 
-// What was refused, and where; number 0 where nothing was.
+// What was refused, and where; number 0 where nothing was: C has no Result, and reads numbers.
 #[repr(C)]
 #[derive(Clone, Copy)]
 pub struct Answer {
@@ -26,102 +25,91 @@ pub struct Ran {
     pub units: u32,
 }
 
+impl<T: Copy> From<Result<T, Refusal>> for Answer {
+    ghost use Rattle.std.specs.Prelude.{◌≡◌};
+    ghost use Rattle.rules.specs.Calls.{says};
+    ghost use Rattle.sledkindle.specs.Exports.{plain};
+
+    ghost from_gives = { λ r answer. answer ≡ plain (says r) };
+
+    fn from(answer: Result<T, Refusal>) -> Self {
+        match answer {
+            Ok(_) => Answer {
+                number: 0,
+                place: 0,
+            },
+            Err(refusal) => Answer {
+                number: u32::from(refusal.fault),
+                place: refusal.place,
+            },
+        }
+    }
+}
+
+// An outcome's number and place.
+fn ending(outcome: Outcome) -> (u32, u32)
+    ensures number { result.0 ≡ ending_number (outcome_says outcome) }
+    ensures place { result.1 ≡ ending_place (outcome_says outcome) }
+{
+    match outcome {
+        Outcome::Done => (0, 0),
+        Outcome::Fuel(place) => (5, place),
+        Outcome::Check(check, place) => (u32::from(check), place),
+    }
+}
+
+impl From<Result<Report, Refusal>> for Ran {
+    ghost use Rattle.std.specs.Prelude.{◌≡◌};
+    ghost use Rattle.rules.specs.Calls.{run_says};
+    ghost use Rattle.sledkindle.specs.Exports.{plain_ran};
+
+    ghost from_gives = { λ r ran. ran ≡ plain_ran (run_says r) };
+
+    fn from(answer: Result<Report, Refusal>) -> Self {
+        match answer {
+            Ok(report) => {
+                let (outcome, place) = ending(report.outcome);
+                Ran {
+                    number: 0,
+                    place,
+                    outcome,
+                    units: report.units,
+                }
+            }
+            Err(refusal) => Ran {
+                number: u32::from(refusal.fault),
+                place: refusal.place,
+                outcome: 0,
+                units: 0,
+            },
+        }
+    }
+}
+
 #[unsafe(no_mangle)]
 pub extern "C" fn sledkindle_read(file: &[u8]) -> Answer
     ensures { result ≡ plain (formed file.now) }
 {
-    let answer = reader::read(file);
-    match answer {
-        ReadAnswer::WellFormed(_) => Answer {
-            number: 0,
-            place: 0,
-        },
-        ReadAnswer::Refused(r) => Answer {
-            number: r.number,
-            place: r.place,
-        },
-    }
+    Answer::from(reader::read(file))
 }
 
 #[unsafe(no_mangle)]
 pub extern "C" fn sledkindle_check(file: &[u8], marking: &[u8]) -> Answer
     ensures { result ≡ plain (checking file.now marking.now) }
 {
-    let answer = checker::check(file, marking);
-    match answer {
-        CheckAnswer::Accepted => Answer {
-            number: 0,
-            place: 0,
-        },
-        CheckAnswer::Refused(r) => Answer {
-            number: r.number,
-            place: r.place,
-        },
-    }
+    Answer::from(checker::check(file, marking))
 }
 
 #[unsafe(no_mangle)]
 pub extern "C" fn sledkindle_infer(file: &[u8], marking: &mut [u8]) -> Answer
     ensures { InferredAs file.now marking.old marking.new result }
 {
-    let answer = infer::infer(file, marking);
-    match answer {
-        InferAnswer::Marked => Answer {
-            number: 0,
-            place: 0,
-        },
-        InferAnswer::Refused(r) => Answer {
-            number: r.number,
-            place: r.place,
-        },
-    }
-}
-
-// An outcome's number and place.
-fn outcome_number(outcome: Outcome) -> u32
-    ensures { result ≡ ending_number (outcome_says outcome) }
-{
-    match outcome {
-        Outcome::Done => 0,
-        Outcome::Fuel(_) => 5,
-        Outcome::Check(number, _) => number,
-    }
-}
-
-fn outcome_place(outcome: Outcome) -> u32
-    ensures { result ≡ ending_place (outcome_says outcome) }
-{
-    match outcome {
-        Outcome::Done => 0,
-        Outcome::Fuel(place) => place,
-        Outcome::Check(_, place) => place,
-    }
-}
-
-fn reported(r: Report) -> Ran
-    ensures { result ≡ record { number = 0; place = ending_place (outcome_says r.outcome); outcome = ending_number (outcome_says r.outcome); units = r.units } }
-{
-    let outcome = r.outcome;
-    Ran {
-        number: 0,
-        place: outcome_place(outcome),
-        outcome: outcome_number(outcome),
-        units: r.units,
-    }
+    Answer::from(infer::infer(file, marking))
 }
 
 #[unsafe(no_mangle)]
 pub extern "C" fn sledkindle_run(file: &[u8], marking: &[u8], fuel: u32, memory: &mut [u64]) -> Ran
     ensures { RanAs (running file.now marking.now fuel memory.old) memory.new result }
 {
-    let answer = runner::run(file, marking, fuel, memory);
-    match answer {
-        RunAnswer::Ran(r) => reported(r),
-        RunAnswer::Refused(r) => Ran {
-            number: r.number,
-            place: r.place,
-            outcome: 0,
-            units: 0,
-        },
-    }
+    Ran::from(runner::run(file, marking, fuel, memory))
 }

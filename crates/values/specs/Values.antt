@@ -1,31 +1,20 @@
 -- The rules for values as code makes them, over the table's homes. Nothing is stuck here: where the rules are not stuck, they say the same.
-use Rattle.std.specs.Prelude.{ℕ, zero, suc, ◌+◌, ◌*◌, ◌%◌, List, [], ◌∷◌, nat_lt, slice_index_or}
+use Rattle.std.specs.Prelude.{ℕ, zero, suc, ◌+◌, ◌%◌, List, [], ◌∷◌, nat_lt, slice_index_or, Result, Ok, Err}
 use Rattle.rules.specs.declared.Value.{Value}
 use Rattle.rules.specs.declared.Value.TheVariants.{Number, Pair}
 use Rattle.rules.specs.Basic.{width}
-use Rattle.rules.specs.Memory.{encode}
-use Rattle.rules.specs.Ruled.{check_number, Ruled, gives, fails, stuck, onward, must, check1, check2, check3}
+use Rattle.rules.specs.declared.Check.{Check}
+use Rattle.rules.specs.declared.Check.TheVariants.{Null, Bounds, NoHome}
+use Rattle.rules.specs.Ruled.{Ruled, gives, fails, stuck, onward, must}
 use Rattle.words.specs.Words.{start_in, size_in}
-use Rattle.values.specs.declared.Found.{Found}
-use Rattle.values.specs.declared.Found.TheVariants as found
-use Rattle.values.specs.declared.Entry.{Entry}
-use Rattle.values.specs.declared.Entry.TheVariants as entry
 
--- ---- what a rule says, as the code's enums say it
+-- ---- what a rule says, as the code answers it
 
-abbrev pub found_of : Ruled ℕ → Found
-found_of (gives n) = found.Is n
-found_of (fails c) = found.Fails (check_number c)
-found_of stuck = found.Fails 0
-
-abbrev pub entry_of : Ruled Value → Entry
-entry_of (gives v) = entry.Is (encode v)
-entry_of (fails c) = entry.Fails (check_number c)
-entry_of stuck = entry.Fails 0
-
-abbrev pub safe_entry : Found → Entry
-safe_entry (found.Is n) = entry.Is n
-safe_entry (found.Fails k) = entry.Fails k
+-- No rule that the code makes is stuck, so nothing hangs on what that becomes.
+abbrev pub checked : {X : Type 0} → Ruled X → Result X Check
+checked (gives x) = Ok x
+checked (fails c) = Err c
+checked stuck = Err Null
 
 abbrev pub as_number : Ruled ℕ → Ruled Value
 as_number u = onward u λ n. gives (Number n)
@@ -46,7 +35,7 @@ to_pair (Pair g n) = Pair g n
 
 abbrev pub to_safe_in : List ℕ → Value → Ruled ℕ
 to_safe_in t (Number n) = gives n
-to_safe_in t (Pair g n) = must check2 (nat_lt n (size_in t g)) (gives ((start_in t g + n) % width))
+to_safe_in t (Pair g n) = must Bounds (nat_lt n (size_in t g)) (gives ((start_in t g + n) % width))
 
 abbrev pub plus_of : Value → ℕ → Value
 plus_of (Number m) n = Number m
@@ -55,16 +44,16 @@ plus_of (Pair g m) n = Pair g ((m + n) % width)
 -- ---- accesses
 
 abbrev pub not_null : ℕ → Ruled ℕ
-not_null zero = fails check1
+not_null zero = fails Null
 not_null (suc a) = gives (suc a)
 
 abbrev pub reach_seq_in : List ℕ → Value → Ruled ℕ
 reach_seq_in t v = onward (to_safe_in t v) not_null
 
 abbrev pub reach_dynamic_in : List ℕ → Value → Ruled ℕ
-reach_dynamic_in t (Number n) = fails check3
-reach_dynamic_in t (Pair zero n) = fails check3
-reach_dynamic_in t (Pair (suc g) n) = must check2 (nat_lt n (size_in t (suc g))) (gives ((start_in t (suc g) + n) % width))
+reach_dynamic_in t (Number n) = fails NoHome
+reach_dynamic_in t (Pair zero n) = fails NoHome
+reach_dynamic_in t (Pair (suc g) n) = must Bounds (nat_lt n (size_in t (suc g))) (gives ((start_in t (suc g) + n) % width))
 
 -- By an access's number: SAFE, SEQ, else DYNAMIC.
 abbrev pub reach_in : List ℕ → ℕ → Value → Ruled ℕ
@@ -74,8 +63,3 @@ reach_in t access v = slice_index_or (not_null (number_of v) ∷ reach_seq_in t 
 
 abbrev pub kept_in : List ℕ → ℕ → Value → Ruled Value
 kept_in t how v = slice_index_or (gives (Number (to_int_in t v)) ∷ gives (to_pair v) ∷ as_number (to_safe_in t v) ∷ []) how (gives (Pair 0 (to_int_in t v)))
-
--- ---- operators
-
-abbrev pub times_of : ℕ → ℕ → ℕ
-times_of m n = (m * n) % width

@@ -15,7 +15,7 @@ use Rattle.view.specs.declared.ExprRow.{ExprRow}
 use Rattle.view.specs.declared.CommandRow.{CommandRow}
 use Rattle.view.specs.declared.HomeRow.{HomeRow}
 use Rattle.view.specs.declared.StartRow.{StartRow}
-use Rattle.view.specs.Rows.{home_row, expr_row, command_row, start_row, HomeAsked, TypeAsked}
+use Rattle.view.specs.Rows.{home_row, expr_row, command_row, start_row}
 
 -- ---- a row's meaning
 
@@ -66,15 +66,14 @@ module _ (s : List ℕ) (at : Starts) (known : WellRead s at) where
       (parts_true (command_spare (command_row s at c).tag (command_row s at c).a (command_row s at c).b (command_row s at c).c) _ (known.commands.good c l)).1
 
 -- The home of a start row has a row, and so has the type of any home.
-pub value_home : {s : List ℕ} {at : Starts} {i : ℕ} {row : StartRow} → WellRead s at → i < half s at.values → row ≡ start_row s at i → HomeAsked s at row.home
+pub value_home : {s : List ℕ} {at : Starts} {i : ℕ} {row : StartRow} → WellRead s at → i < half s at.values → row ≡ start_row s at i
+    → (1 ≤ row.home) × (row.home ≤ half s at.homes)
 unfolding row_good
 value_home {s} {at} {i} known l is =
     let g = (start_row s at i).home in
     let (a, b) = parts_true (in_range 1 g (half s at.homes)) _ (values_good known.values i l) in
-    let (low, high) = in_range_lem 1 g (half s at.homes) a in
-    rw (ap (λ (x : StartRow). x.home) is) (record { file = known; first = low; row = high })
+    rw (ap (λ (x : StartRow). x.home) is) (in_range_lem 1 g (half s at.homes) a)
 
-pub home_type_asked : {s : List ℕ} {at : Starts} {g : ℕ} {row : HomeRow} → HomeAsked s at g → row ≡ home_row s at g → TypeAsked s at row.ty
-home_type_asked {s} {at} {g} asked is =
-    rw (ap (λ (x : HomeRow). x.ty) is)
-    (record { file = asked.file; row = (home_in_range s at asked.file g asked.first asked.row).0.1 })
+pub home_type : {s : List ℕ} {at : Starts} {g : ℕ} {row : HomeRow} → WellRead s at → 1 ≤ g → g ≤ half s at.homes → row ≡ home_row s at g
+    → row.ty ≤ half s at.types
+home_type {s} {at} {g} known first last is = rw (ap (λ (x : HomeRow). x.ty) is) (home_in_range s at known g first last).0.1

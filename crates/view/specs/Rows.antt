@@ -1,10 +1,8 @@
--- The rows of a file's sections as the view answers them, and when they may be asked.
-use Rattle.std.specs.Prelude.{ℕ, ◌+◌, ◌≤◌, ◌<◌, List, length}
+-- The rows of a file's sections as the view answers them.
+use Rattle.std.specs.Prelude.{ℕ, ◌+◌, List}
 use Rattle.rules.specs.declared.Starts.{Starts}
 use Rattle.rules.specs.Basic.{byte, half, word}
 use Rattle.rules.specs.Table.{type_place, home_place, expr_place, command_place, value_place}
-use Rattle.laws.specs.WellRead.{WellRead}
-use Rattle.laws.specs.Known.{values_fit}
 use Rattle.view.specs.declared.TypeRow.{TypeRow}
 use Rattle.view.specs.declared.HomeRow.{HomeRow}
 use Rattle.view.specs.declared.ExprRow.{ExprRow}
@@ -53,30 +51,3 @@ counts_of s at =
       commands = half s at.commands;
       values = half s at.values;
     }
-
--- A row of a file that was read, by a number that it has.
-pub record TypeAsked (s : List ℕ) (at : Starts) (t : ℕ) : Type 0 where
-  pub file : WellRead s at
-  pub row : t ≤ half s at.types
-
-pub record HomeAsked (s : List ℕ) (at : Starts) (g : ℕ) : Type 0 where
-  pub file : WellRead s at
-  pub first : 1 ≤ g
-  pub row : g ≤ half s at.homes
-
-pub record ExprAsked (s : List ℕ) (at : Starts) (e : ℕ) : Type 0 where
-  pub file : WellRead s at
-  pub row : e < half s at.exprs
-
-pub record CommandAsked (s : List ℕ) (at : Starts) (c : ℕ) : Type 0 where
-  pub file : WellRead s at
-  pub row : c < half s at.commands
-
-pub record StartAsked (s : List ℕ) (at : Starts) (i : ℕ) : Type 0 where
-  pub file : WellRead s at
-  pub row : i < half s at.values
-  -- It is whole, though a file need not have start values (`Fifth`).
-  pub whole : value_place at i + 8 ≤ length s
-
-pub value_asked : {s : List ℕ} {at : Starts} → WellRead s at → (i : ℕ) → i < half s at.values → StartAsked s at i
-value_asked file i l = record { file = file; row = l; whole = values_fit file.values i l }

@@ -42,7 +42,8 @@ module _ (s : List ℕ) (at : Starts) (known : WellRead s at) where
   home_type : (g : ℕ) → 1 ≤ g → g ≤ half s at.homes → (home_at (routine s at).homes g).type ≤ half s at.types
   home_type g h l = omega (arith, (home_has s at g h l).type, (home_in_range s at known g h l).0.1)
 
-  target_type : (t : ℕ) → t ≤ half s at.types → (routine s at).target t ≤ half s at.types
+  -- The target of a type, or the count in the place of row 0, is a type.
+  pub target_type : (t : ℕ) → t ≤ half s at.types → (routine s at).target t ≤ half s at.types
   target_type zero l = let e : at.types + 2 * 0 ≡ at.types = omega arith in rw e (omega arith)
   target_type (suc t) l = omega (arith, target_below s at known (suc t) (omega arith) l)
 

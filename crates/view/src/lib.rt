@@ -1,38 +1,39 @@
-// The view of a file that was read: its bytes and its five section starts, with one question for the counts and one for the rows of each section.
-// Above each question stands a function with plain parameters that makes the view and asks it; the work is done by functions on the slice.
+// The view of a file that was read: its bytes and its five section starts, with a question for the counts and one for the rows of each section.
 #![tactic(auto)]
 
 ghost use Rattle.std.specs.Prelude.{◌≡◌, ◌+◌, ◌≤◌, ◌<◌, length};
 ghost use Rattle.rules.specs.Basic.{half, word};
 ghost use Rattle.laws.specs.WellRead.{WellRead};
+ghost use Rattle.laws.specs.Props.{WellRead_prop};
 ghost use Rattle.rules.specs.Table.{type_place, home_place, expr_place, command_place, value_place};
-ghost use Rattle.view.specs.Rows.{type_row, home_row, expr_row, command_row, start_row, counts_of, TypeAsked, HomeAsked, ExprAsked, CommandAsked, StartAsked};
 
 use rules::Starts;
 
+pub mod first; // first.rt: the first row that fails a test
+
 // A type row: the type that a reference of this type points to.
-#[derive(Clone, Copy)]
+#[derive(Clone, Copy, Debug, PartialEq, Eq)]
 pub struct TypeRow {
     pub target: u16,
 }
 
 // A home row: the home's type and its number of cells.
-#[derive(Clone, Copy)]
+#[derive(Clone, Copy, Debug, PartialEq, Eq)]
 pub struct HomeRow {
     pub ty: u16,
     pub size: u16,
 }
 
-// An expression row.
-#[derive(Clone, Copy)]
+// An expression row's bytes.
+#[derive(Clone, Copy, Debug, PartialEq, Eq)]
 pub struct ExprRow {
     pub tag: u8,
     pub a: u16,
     pub b: u16,
 }
 
-// A command row.
-#[derive(Clone, Copy)]
+// A command row's bytes.
+#[derive(Clone, Copy, Debug, PartialEq, Eq)]
 pub struct CommandRow {
     pub tag: u8,
     pub a: u16,
@@ -40,8 +41,30 @@ pub struct CommandRow {
     pub c: u16,
 }
 
+// An expression row by its form. An operator is told by its number among the nine, from 0: an enum would be made here and made a number again in the word.
+#[derive(Clone, Copy, Debug, PartialEq, Eq)]
+pub enum Expr {
+    Literal(u32),
+    Home(u16),
+    Cast(u16, u16),
+    Null(u16),
+    Sum(u16, u16),
+    Read(u16),
+    Op(u8, u16, u16),
+}
+
+// A command row by its form.
+#[derive(Clone, Copy, Debug, PartialEq, Eq)]
+pub enum Command {
+    Skip,
+    Then(u16, u16),
+    Store(u16, u16),
+    If(u16, u16, u16),
+    While(u16, u16),
+}
+
 // A start row: a cell of a home, and the number that it starts as.
-#[derive(Clone, Copy)]
+#[derive(Clone, Copy, Debug, PartialEq, Eq)]
 pub struct StartRow {
     pub home: u16,
     pub cell: u16,
@@ -49,7 +72,7 @@ pub struct StartRow {
 }
 
 // How many rows each section has.
-#[derive(Clone, Copy)]
+#[derive(Clone, Copy, Debug, PartialEq, Eq)]
 pub struct Counts {
     pub types: u16,
     pub homes: u16,
@@ -58,14 +81,10 @@ pub struct Counts {
     pub values: u16,
 }
 
-// The file's bytes and its five section starts.
-#[derive(Drop)]
-pub struct View<'a> {
-    pub bytes: &'a [u8],
-    pub at: Starts,
-}
+// A number that is to be an index becomes one by `as`: `usize::from` would put a call between a field and its index, and name it in proofs.
+// So in every crate; and where a number is narrowed by `as`, the proof shows that it fits.
 
-// ---- the places of rows
+// ---- the places of rows. Each is its definition: a helper over the bytes of a row would be no plainer
 
 // Of type row `t`, from 1; for 0, that of the count.
 pub fn type_place(at: Starts, t: usize) -> usize
@@ -107,21 +126,14 @@ pub fn start_place(at: Starts, i: usize) -> usize
     at.values as usize + 2 + 8 * i
 }
 
-// ---- the work, on the slice
-
-// A byte as a 16-bit number.
-fn wide(b: u8) -> u16
-    ensures { (result ≡ b) × (result < 256) }
-{
-    b as u16
-}
+// ---- numbers in the bytes
 
 // The 16-bit number at place `i`.
-fn half_at(s: &[u8], i: usize) -> u16
+pub fn half_at(s: &[u8], i: usize) -> u16
     requires { i + 2 ≤ length s.now }
     ensures { result ≡ half s.now i }
 {
-    wide(s[i]) + 256 * wide(s[i + 1])
+    u16::from_le_bytes([s[i], s[i + 1]])
 }
 
 // The 32-bit number at place `i`.
@@ -129,213 +141,199 @@ fn word_at(s: &[u8], i: usize) -> u32
     requires { i + 4 ≤ length s.now }
     ensures { result ≡ word s.now i }
 {
-    half_at(s, i) as u32 + 65536 * half_at(s, i + 2) as u32
+    u32::from_le_bytes([s[i], s[i + 1], s[i + 2], s[i + 3]])
 }
 
-// Type row `t`, from 1; row 0 stands for the count.
-fn type_at(s: &[u8], at: Starts, t: usize) -> TypeRow
-    requires { TypeAsked s.now at t }
-    ensures { result ≡ type_row s.now at t }
-{
-    let q = type_place(at, t);
-    TypeRow {
-        target: half_at(s, q),
+// ---- rows at their places, whether they are in range or not
+
+impl TypeRow {
+    ghost use Rattle.view.specs.Rows.{type_row_at};
+
+    pub fn at(bytes: &[u8], place: usize) -> Self
+        requires { place + 2 ≤ length bytes.now }
+        ensures { result ≡ type_row_at bytes.now place }
+    {
+        TypeRow {
+            target: half_at(bytes, place),
+        }
     }
 }
 
-// Home row `g`, from 1.
-fn home_at(s: &[u8], at: Starts, g: usize) -> HomeRow
-    requires { HomeAsked s.now at g }
-    ensures { result ≡ home_row s.now at g }
-{
-    let q = home_place(at, g);
-    HomeRow {
-        ty: half_at(s, q),
-        size: half_at(s, q + 2),
+impl HomeRow {
+    ghost use Rattle.view.specs.Rows.{home_row_at};
+
+    pub fn at(bytes: &[u8], place: usize) -> Self
+        requires { place + 4 ≤ length bytes.now }
+        ensures { result ≡ home_row_at bytes.now place }
+    {
+        HomeRow {
+            ty: half_at(bytes, place),
+            size: half_at(bytes, place + 2),
+        }
     }
 }
 
-// Expression row `e`.
-fn expr_at(s: &[u8], at: Starts, e: usize) -> ExprRow
-    requires { ExprAsked s.now at e }
-    ensures { result ≡ expr_row s.now at e }
-{
-    let q = expr_place(at, e);
-    ExprRow {
-        tag: s[q],
-        a: half_at(s, q + 1),
-        b: half_at(s, q + 3),
+impl ExprRow {
+    ghost use Rattle.view.specs.Rows.{expr_row_at};
+
+    pub fn at(bytes: &[u8], place: usize) -> Self
+        requires { place + 5 ≤ length bytes.now }
+        ensures { result ≡ expr_row_at bytes.now place }
+    {
+        ExprRow {
+            tag: bytes[place],
+            a: half_at(bytes, place + 1),
+            b: half_at(bytes, place + 3),
+        }
     }
 }
 
-// Command row `c`.
-fn command_at(s: &[u8], at: Starts, c: usize) -> CommandRow
-    requires { CommandAsked s.now at c }
-    ensures { result ≡ command_row s.now at c }
-{
-    let q = command_place(at, c);
-    CommandRow {
-        tag: s[q],
-        a: half_at(s, q + 1),
-        b: half_at(s, q + 3),
-        c: half_at(s, q + 5),
+impl CommandRow {
+    ghost use Rattle.view.specs.Rows.{command_row_at};
+
+    pub fn at(bytes: &[u8], place: usize) -> Self
+        requires { place + 7 ≤ length bytes.now }
+        ensures { result ≡ command_row_at bytes.now place }
+    {
+        CommandRow {
+            tag: bytes[place],
+            a: half_at(bytes, place + 1),
+            b: half_at(bytes, place + 3),
+            c: half_at(bytes, place + 5),
+        }
     }
 }
 
-// Start row `i`.
-fn start_at(s: &[u8], at: Starts, i: usize) -> StartRow
-    requires { StartAsked s.now at i }
-    ensures { result ≡ start_row s.now at i }
-{
-    let q = start_place(at, i);
-    StartRow {
-        home: half_at(s, q),
-        cell: half_at(s, q + 2),
-        value: word_at(s, q + 4),
-    }
-}
+impl StartRow {
+    ghost use Rattle.view.specs.Rows.{start_row_at};
 
-// How many start rows there are: none where the file stops after the commands.
-fn start_count_at(s: &[u8], at: Starts) -> u16
-    requires { WellRead s.now at }
-    ensures { result ≡ half s.now at.values }
-{
-    let q = at.values as usize;
-    if q == s.len() {
-        return 0;
-    }
-    half_at(s, q)
-}
-
-// How many rows each section has.
-fn counts_at(s: &[u8], at: Starts) -> Counts
-    requires { WellRead s.now at }
-    ensures { result ≡ counts_of s.now at }
-{
-    let types = at.types as usize;
-    let homes = at.homes as usize;
-    let exprs = at.exprs as usize;
-    let commands = at.commands as usize;
-    Counts {
-        types: half_at(s, types),
-        homes: half_at(s, homes),
-        exprs: half_at(s, exprs),
-        commands: half_at(s, commands),
-        values: start_count_at(s, at),
+    pub fn at(bytes: &[u8], place: usize) -> Self
+        requires { place + 8 ≤ length bytes.now }
+        ensures { result ≡ start_row_at bytes.now place }
+    {
+        StartRow {
+            home: half_at(bytes, place),
+            cell: half_at(bytes, place + 2),
+            value: word_at(bytes, place + 4),
+        }
     }
 }
 
 // ---- the view
 
-// The view of a file whose sections start at `at`.
-pub fn view_of<'a>(bytes: &'a [u8], at: Starts) -> View<'a>
-    ensures { (result.bytes ≡ bytes.entry) × (result.at ≡ at) }
-{
-    View { bytes, at }
+// The bytes of a file that was read, and its five section starts.
+#[derive(Clone, Copy)]
+pub struct View<'a> {
+    pub bytes: &'a [u8],
+    pub at: Starts,
+    pub ghost read: { WellRead bytes.now at } by { WellRead_prop bytes.now at },
 }
 
-// How many rows each section of the view's file has.
-pub fn ask_counts<'a>(v: View<'a>) -> Counts
-    requires { WellRead v.bytes.now v.at }
-    ensures { result ≡ counts_of v.entry.bytes.now v.entry.at }
-{
-    counts_at(v.bytes, v.at)
-}
+impl<'a> View<'a> {
+    ghost use Rattle.view.specs.Rows.{type_row, home_row, expr_row, command_row, start_row, counts_of};
+    ghost use Rattle.view.specs.Files.{routine_of};
+    ghost use Rattle.view.specs.Forms.{expr_says, command_says, ExprNames, CommandNames};
 
-// Type row `t` of the view's file.
-pub fn ask_type<'a>(v: View<'a>, t: usize) -> TypeRow
-    requires { TypeAsked v.bytes.now v.at t }
-    ensures { result ≡ type_row v.entry.bytes.now v.entry.at t }
-{
-    type_at(v.bytes, v.at, t)
-}
+    // How many start rows there are: none where the file stops after the commands.
+    fn start_count(&self) -> u16
+        ensures { result ≡ half self.now.bytes.now self.now.at.values }
+    {
+        let q = self.at.values as usize;
+        if q == self.bytes.len() {
+            return 0;
+        }
+        half_at(self.bytes, q)
+    }
 
-// Home row `g` of the view's file.
-pub fn ask_home<'a>(v: View<'a>, g: usize) -> HomeRow
-    requires { HomeAsked v.bytes.now v.at g }
-    ensures { result ≡ home_row v.entry.bytes.now v.entry.at g }
-{
-    home_at(v.bytes, v.at, g)
-}
+    // How many rows each section has.
+    pub fn counts(&self) -> Counts
+        ensures { result ≡ counts_of self.now.bytes.now self.now.at }
+    {
+        Counts {
+            types: half_at(self.bytes, self.at.types as usize),
+            homes: half_at(self.bytes, self.at.homes as usize),
+            exprs: half_at(self.bytes, self.at.exprs as usize),
+            commands: half_at(self.bytes, self.at.commands as usize),
+            values: self.start_count(),
+        }
+    }
 
-// Expression row `e` of the view's file.
-pub fn ask_expr<'a>(v: View<'a>, e: usize) -> ExprRow
-    requires { ExprAsked v.bytes.now v.at e }
-    ensures { result ≡ expr_row v.entry.bytes.now v.entry.at e }
-{
-    expr_at(v.bytes, v.at, e)
-}
+    // Type row `t`, from 1; row 0 stands for the count.
+    pub fn type_row(&self, t: usize) -> TypeRow
+        requires { t ≤ half self.now.bytes.now self.now.at.types }
+        ensures { result ≡ type_row self.now.bytes.now self.now.at t }
+    {
+        TypeRow::at(self.bytes, type_place(self.at, t))
+    }
 
-// Command row `c` of the view's file.
-pub fn ask_command<'a>(v: View<'a>, c: usize) -> CommandRow
-    requires { CommandAsked v.bytes.now v.at c }
-    ensures { result ≡ command_row v.entry.bytes.now v.entry.at c }
-{
-    command_at(v.bytes, v.at, c)
-}
+    // Home row `g`, from 1.
+    pub fn home_row(&self, g: usize) -> HomeRow
+        requires first { 1 ≤ g }
+        requires row { g ≤ half self.now.bytes.now self.now.at.homes }
+        ensures { result ≡ home_row self.now.bytes.now self.now.at g }
+    {
+        HomeRow::at(self.bytes, home_place(self.at, g))
+    }
 
-// Start row `i` of the view's file.
-pub fn ask_start<'a>(v: View<'a>, i: usize) -> StartRow
-    requires { StartAsked v.bytes.now v.at i }
-    ensures { result ≡ start_row v.entry.bytes.now v.entry.at i }
-{
-    start_at(v.bytes, v.at, i)
-}
+    // The tag and the fields of expression row `e`.
+    fn expr_row(&self, e: usize) -> ExprRow
+        requires { e < half self.now.bytes.now self.now.at.exprs }
+        ensures { result ≡ expr_row self.now.bytes.now self.now.at e }
+    {
+        ExprRow::at(self.bytes, expr_place(self.at, e))
+    }
 
-// ---- the same questions with plain parameters
+    // Expression row `e`. A row of a file that was read has a tag of some form, so the last arm has the operators' tags alone.
+    // A row's number stays a clause of each question: a type for it would have to name the file.
+    #[inline]
+    pub fn expr(&self, e: usize) -> Expr
+        requires { e < (routine_of self.now).exprs }
+        ensures says { expr_says result ≡ (routine_of self.now).expr e }
+        ensures names { ExprNames (routine_of self.now).types (half self.now.bytes.now self.now.at.homes) e result }
+    {
+        let row = self.expr_row(e);
+        match row.tag {
+            0 => Expr::Literal(u32::from(row.a) + 65536 * u32::from(row.b)),
+            1 => Expr::Home(row.a),
+            3 => Expr::Cast(row.a, row.b),
+            4 => Expr::Null(row.a),
+            5 => Expr::Sum(row.a, row.b),
+            6 => Expr::Read(row.a),
+            tag => Expr::Op(tag - 16, row.a, row.b),
+        }
+    }
 
-// How many rows each section of a file that was read has.
-pub fn row_counts(file: &[u8], at: Starts) -> Counts
-    requires { WellRead file.now at }
-    ensures { result ≡ counts_of file.now at }
-{
-    ask_counts(view_of(file, at))
-}
+    // The tag and the fields of command row `c`.
+    fn command_row(&self, c: usize) -> CommandRow
+        requires { c < half self.now.bytes.now self.now.at.commands }
+        ensures { result ≡ command_row self.now.bytes.now self.now.at c }
+    {
+        CommandRow::at(self.bytes, command_place(self.at, c))
+    }
 
-// Of these, the start values.
-pub fn start_count(file: &[u8], at: Starts) -> u16
-    requires { WellRead file.now at }
-    ensures { result ≡ half file.now at.values }
-{
-    row_counts(file, at).values
-}
+    // Command row `c`. The last arm has the tag of a while alone.
+    #[inline]
+    pub fn command(&self, c: usize) -> Command
+        requires { c < (routine_of self.now).commands }
+        ensures says { command_says result ≡ (routine_of self.now).command c }
+        ensures names { CommandNames (routine_of self.now).exprs c result }
+    {
+        let row = self.command_row(c);
+        match row.tag {
+            0 => Command::Skip,
+            1 => Command::Then(row.a, row.b),
+            2 => Command::Store(row.a, row.b),
+            3 => Command::If(row.a, row.b, row.c),
+            _ => Command::While(row.a, row.b),
+        }
+    }
 
-// Type row `t` of a file that was read.
-pub fn type_row(file: &[u8], at: Starts, t: usize) -> TypeRow
-    requires { TypeAsked file.now at t }
-    ensures { result ≡ type_row file.now at t }
-{
-    ask_type(view_of(file, at), t)
-}
-
-// Home row `g` of a file that was read.
-pub fn home_row(file: &[u8], at: Starts, g: usize) -> HomeRow
-    requires { HomeAsked file.now at g }
-    ensures { result ≡ home_row file.now at g }
-{
-    ask_home(view_of(file, at), g)
-}
-
-// Expression row `e` of a file that was read.
-pub fn expr_row(file: &[u8], at: Starts, e: usize) -> ExprRow
-    requires { ExprAsked file.now at e }
-    ensures { result ≡ expr_row file.now at e }
-{
-    ask_expr(view_of(file, at), e)
-}
-
-// Command row `c` of a file that was read.
-pub fn command_row(file: &[u8], at: Starts, c: usize) -> CommandRow
-    requires { CommandAsked file.now at c }
-    ensures { result ≡ command_row file.now at c }
-{
-    ask_command(view_of(file, at), c)
-}
-
-// Start row `i` of a file that was read.
-pub fn start_row(file: &[u8], at: Starts, i: usize) -> StartRow
-    requires { StartAsked file.now at i }
-    ensures { result ≡ start_row file.now at i }
-{
-    ask_start(view_of(file, at), i)
+    // Start row `i`.
+    #[tactic(auto, using(laws::specs::Known::values_fit))]
+    pub fn start_row(&self, i: usize) -> StartRow
+        requires { i < half self.now.bytes.now self.now.at.values }
+        ensures { result ≡ start_row self.now.bytes.now self.now.at i }
+    {
+        StartRow::at(self.bytes, start_place(self.at, i))
+    }
 }

@@ -18,16 +18,20 @@ use Rattle.words.specs.Ops.{op_number, op_pair, op_to_int, op_to_pair, op_to_saf
 abbrev pub op_in : ℕ → ℕ
 op_in w = w % 256
 
+-- The 16 bits from a power of two on.
+abbrev pub field_in : ℕ → ℕ → ℕ
+field_in at w = w / at % 65536
+
 -- Bits 8 to 23.
 abbrev pub a_in : ℕ → ℕ
-a_in w = w / 256 % 65536
+a_in w = field_in 256 w
 
 -- Bits 24 to 39, 40 to 55 and 56 to 63 of a command.
 abbrev pub b_in : ℕ → ℕ
-b_in w = w / 16777216 % 65536
+b_in w = field_in 16777216 w
 
 abbrev pub c_in : ℕ → ℕ
-c_in w = w / 1099511627776 % 65536
+c_in w = field_in 1099511627776 w
 
 abbrev pub d_in : ℕ → ℕ
 d_in w = w / 72057594037927936

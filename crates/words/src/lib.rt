@@ -7,11 +7,11 @@
 #![tactic(auto)]
 
 ghost use Rattle.std.specs.Prelude.{◌≡◌, ◌+◌, ◌*◌, ◌<◌};
-ghost use Rattle.words.specs.Words.{op_in, a_in, b_in, c_in, d_in, low_in, high_in, start_in, size_in, Packed, PackedCommand};
+ghost use Rattle.words.specs.Words.{op_in, field_in, d_in, low_in, high_in, start_in, size_in, Packed, PackedCommand};
 
 pub mod ops;
 
-// Words in the table, and where those of commands and of homes begin.
+// Words in the table, and where those of commands and of homes begin. Its size is fixed, as that of every table: no call asks for memory, so none fails for want of it.
 pub const WORDS: usize = 2304;
 
 pub const COMMANDS: usize = 1024;
@@ -19,11 +19,11 @@ pub const COMMANDS: usize = 1024;
 pub const HOMES: usize = 2048;
 
 // Where a field begins, as the power of two that moves it there; and how many numbers a field of 16 bits has.
-const A: u64 = 256;
+pub const A: u64 = 256;
 
-const B: u64 = 16777216;
+pub const B: u64 = 16777216;
 
-const C: u64 = 1099511627776;
+pub const C: u64 = 1099511627776;
 
 const D: u64 = 72057594037927936;
 
@@ -38,23 +38,12 @@ pub fn op_of(w: u64) -> u64
     w % A
 }
 
-// The fields of a row. An expression's b is its high half.
-pub fn a_of(w: u64) -> u32
-    ensures { result ≡ a_in w }
+// The field of 16 bits that begins at A, B or C. An expression's b is its high half.
+pub fn field<const AT: u64>(w: u64) -> u32
+    requires { 0 < AT }
+    ensures { result ≡ field_in AT w }
 {
-    (w / A % FIELD) as u32
-}
-
-pub fn b_of(w: u64) -> u32
-    ensures { result ≡ b_in w }
-{
-    (w / B % FIELD) as u32
-}
-
-pub fn c_of(w: u64) -> u32
-    ensures { result ≡ c_in w }
-{
-    (w / C % FIELD) as u32
+    (w / AT % FIELD) as u32
 }
 
 pub fn d_of(w: u64) -> u32
@@ -96,19 +85,19 @@ pub fn word(op: u64, a: u32, b: u32) -> u64
     requires { (op < 256) × (a < 65536) }
     ensures { Packed result op a b }
 {
-    op + a as u64 * A + b as u64 * HIGH
+    op + u64::from(a) * A + u64::from(b) * HIGH
 }
 
 pub fn command_word(op: u64, a: u32, b: u32, c: u32, d: u32) -> u64
     requires { (op < 256) × (a < 65536) × (b < 65536) × (c < 65536) × (d < 256) }
     ensures { PackedCommand result op a b c d }
 {
-    op + a as u64 * A + b as u64 * B + c as u64 * C + d as u64 * D
+    op + u64::from(a) * A + u64::from(b) * B + u64::from(c) * C + u64::from(d) * D
 }
 
 // A word of its halves: a home's, or an entry of memory.
 pub fn of_halves(low: u32, high: u32) -> u64
     ensures { result ≡ low + 4294967296 * high }
 {
-    low as u64 + HIGH * high as u64
+    u64::from(low) + HIGH * u64::from(high)
 }

@@ -1,4 +1,5 @@
 // The operations of words by name, as `specs/Ops` numbers them.
+// Numbers and no enums: to make an enum of a field that was packed takes a test, and a run makes no test that the rules do not name.
 
 // ---- expressions: a number, a pair of offset 0; conversions; reads, the last one of an int through DYNAMIC; a pointer sum; then the nine operators
 

@@ -17,8 +17,8 @@ abbrev pub decreases-then : goal.decreases-then
 decreases-then l = 2 * l.row
 
 -- An answer that is right from this turn on is right from the start.
-abbrev pub invariant-repeat-loop-x : goal.invariant-repeat-loop-x
-invariant-repeat-loop-x l = (length l.memory ≡ length l.initial.memory) × ((g : Commanded l.t l.initial.memory l.row) → Turned g l.fuel l.memory l.left)
+abbrev pub invariant-repeat-loop-turn : goal.invariant-repeat-loop-turn
+invariant-repeat-loop-turn l = (length l.memory ≡ length l.initial.memory) × ((g : Commanded l.t l.initial.memory l.row) → Turned g l.fuel l.memory l.left)
 
-abbrev pub decreases-repeat-loop-x : goal.decreases-repeat-loop-x
-decreases-repeat-loop-x l = l.left
+abbrev pub decreases-repeat-loop-turn : goal.decreases-repeat-loop-turn
+decreases-repeat-loop-turn l = l.left

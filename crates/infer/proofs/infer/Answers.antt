@@ -1,26 +1,31 @@
--- `infer::infer` meets its contract, a law for each way out: refused with the file, too little lent, marked. Nothing is written before the last.
-use borrow.Author.Rules.{rules}
-use Rattle.gather.specs.Told.{told_typed}
-use Rattle.infer.specs.Answers.{file_refused, part_size, part_types, marking_short, marking_filled}
+-- A law for each way out: refused with the file, too little lent, marked. Nothing is written before the last.
+use Rattle.std.proofs.Common.{◌≡◌, refl, ap, ◌∙◌, rules}
+use Rattle.std.proofs.lemmas.Result.{err_from_is_err_and}
+use Rattle.rules.specs.Basic.{half}
+use Rattle.view.specs.declared.Counts.{Counts}
+use Rattle.infer.specs.Told.{told_typed}
+use Rattle.infer.specs.Answers.{file_refused, marking_short, marking_filled}
 use Rattle.infer.proofs.infer.Goals as goal
 
-pub returns-in-Refused : goal.returns-in-Refused
-returns-in-Refused c = file_refused c.read_typed-read.ensures c.in-Refused.is
+pub returns-in_err-at : goal.returns-in_err-at
+returns-in_err-at c =
+    let p = err_from_is_err_and c.from_residual.result c.from_residual.ensures.1 in
+    rw (p.1, p.2) (file_refused c.read_typed.ensures c.in_err-at.was)
 
-pub row_counts-counts-requires : goal.row_counts-counts-requires
-row_counts-counts-requires c = (told_typed c.read_typed-read.ensures (record { each = λ i. search rules }) c.in-WellFormed.is).file
+pub new-formed-requires : goal.new-formed-requires
+new-formed-requires c = told_typed c.read_typed.ensures (record { each = λ i. search rules }) c.in_ok-at.was
 
-pub returns-then-marking-types : goal.returns-then-marking-types
-returns-then-marking-types c = marking_short c.read_typed-read.ensures c.in-WellFormed.is c.row_counts-counts.ensures _ c.if-marking-types.true
-
-pub slice_bounds-mark-end-2 : goal.slice_bounds-mark-end-2
-slice_bounds-mark-end-2 c = part_size _ c.if-marking-types.false
-
-pub mark-requires : goal.mark-requires
-mark-requires c = (
-  told_typed c.read_typed-read.ensures (record { each = λ i. search rules }) c.in-WellFormed.is,
-  part_types c.read_typed-read.ensures c.in-WellFormed.is c.row_counts-counts.ensures _ c.if-marking-types.false,
-)
+pub returns-then-marking-needed : goal.returns-then-marking-needed
+returns-then-marking-needed c =
+    let v = c.new-formed.ensures.view in
+    let q : c.counts.result.types ≡ half c.new-formed.result.view.bytes.now c.new-formed.result.view.at.types = ap (λ (x : Counts). x.types) c.counts.ensures in
+    let n : c.counts.result.types ≡ half c.args.file.now c.in_ok-at.at.types = rw (v.0, v.1) at q in
+    rw c.new.ensures (marking_short c.read_typed.ensures c.in_ok-at.was (c.from-needed.ensures ∙ n) _ refl c.if-marking-needed.true)
 
 pub returns : goal.returns
-returns c = marking_filled c.read_typed-read.ensures c.in-WellFormed.is c.row_counts-counts.ensures _ c.if-marking-types.false c.mark.ensures
+returns c =
+    let v = c.new-formed.ensures.view in
+    let q : c.counts.result.types ≡ half c.new-formed.result.view.bytes.now c.new-formed.result.view.at.types = ap (λ (x : Counts). x.types) c.counts.ensures in
+    let n : c.counts.result.types ≡ half c.args.file.now c.in_ok-at.at.types = rw (v.0, v.1) at q in
+    let least = rw (v.0, v.1) at c.mark.ensures in
+    marking_filled c.read_typed.ensures c.in_ok-at.was (c.from-needed.ensures ∙ n) _ c.if-marking-needed.false least

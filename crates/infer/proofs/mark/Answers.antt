@@ -1,25 +1,14 @@
 -- `infer::mark` meets its contract: the rows of the file give tables that are fit for the inference, whose marking is then the file's least one.
-use mathlib.Core.Path.{refl, ◌∙◌}
 use Rattle.raise.specs.Marks.{zeros}
 use Rattle.gather.specs.Tables.{filled_from}
-use Rattle.gather.specs.Gathering.{noting_none}
-use Rattle.infer.specs.Marked.{from_part, to_part, tables_fit, marked, behind, clear_size, clear_mark}
+use Rattle.infer.specs.Marked.{marked}
 use Rattle.infer.proofs.mark.Goals as goal
 
-pub fill-requires : goal.fill-requires
-fill-requires c = (c.requires.0.file, clear_size c.clear.ensures ∙ c.requires.1, refl)
+pub least_above-requires-clause-falls : goal.least_above-requires-clause-falls
+least_above-requires-clause-falls c = (filled_from c.args.file.now.typed.formed.falls c.fill.ensures (zeros 256)).falls
 
-pub rows-n-requires : goal.rows-n-requires
-rows-n-requires c = (c.requires.0, noting_none refl refl (clear_mark c.clear.ensures c.requires.1))
-
-pub slice_bounds-least_above-end-2 : goal.slice_bounds-least_above-end-2
-slice_bounds-least_above-end-2 c = from_part c.requires.0 c.rows-n.ensures
-
-pub slice_bounds-least_above-end-3 : goal.slice_bounds-least_above-end-3
-slice_bounds-least_above-end-3 c = to_part c.requires.0 c.rows-n.ensures
-
-pub least_above-requires : goal.least_above-requires
-least_above-requires c = tables_fit c.requires.0 c.rows-n.ensures (filled_from c.requires.0.formed.falls (clear_size c.clear.ensures ∙ c.requires.1) c.fill.ensures (zeros 256))
+pub least_above-requires-clause-listed : goal.least_above-requires-clause-listed
+least_above-requires-clause-listed c = rw (c.as_slice.ensures.value, c.rows.ensures.size) c.rows.ensures.listed
 
 pub returns : goal.returns
-returns c = marked c.requires.0 c.rows-n.ensures (filled_from c.requires.0.formed.falls (clear_size c.clear.ensures ∙ c.requires.1) c.fill.ensures (zeros 256)) (behind (clear_size c.clear.ensures ∙ c.requires.1)) c.least_above.ensures
+returns c = marked c.args.file.now.typed.formed (filled_from c.args.file.now.typed.formed.falls c.fill.ensures (zeros 256)) c.rows.ensures (rw c.as_slice.ensures.value at c.least_above.ensures)

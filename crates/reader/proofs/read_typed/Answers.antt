@@ -1,19 +1,15 @@
--- `read_typed` meets its contract: a refusal from 1 to 5 comes first and leaves the table, or the table is filled, and 10 and 6 decide. Assumes nothing.
-use Rattle.std.proofs.Common.{ap}
-use denote.Enum.Declared.{tag_of}
-use Rattle.rules.specs.contracts.ReadAnswer as answers
+-- A refusal from 1 to 5 comes first and leaves the table, or the table is filled, and 10 and 6 decide.
+use Rattle.std.proofs.lemmas.Result.{err_from_is_err_and}
 use Rattle.reader.proofs.Shapes.{not_read, now_known, read_typed_lem}
-use mathlib.Core.Path.{◌∙◌}
 use Rattle.reader.proofs.read_typed.Goals as goal
 
-pub type_table-requires : goal.type_table-requires
-type_table-requires c = (now_known c.args.file.now c.whole-found.result c.whole-found.ensures c.in-WellFormed.is, c.requires)
+pub returns-in_err-at : goal.returns-in_err-at
+returns-in_err-at c =
+    let p = err_from_is_err_and c.from_residual.result c.from_residual.ensures.1 in
+    rw (p.1, p.2) (not_read c.args.file.now _ c.whole.ensures _ c.in_err-at.was)
 
-pub tests_pass-requires : goal.tests_pass-requires
-tests_pass-requires c = record { file = now_known c.args.file.now c.whole-found.result c.whole-found.ensures c.in-WellFormed.is; long = c.type_table.ensures.long ∙ c.requires; types = c.type_table.ensures.types }
+pub invariant_of-view : goal.invariant_of-view
+invariant_of-view c = record { read = now_known c.args.file.now _ c.whole.ensures c.in_ok-at.was }
 
 pub returns : goal.returns
-returns c = read_typed_lem c.args.file.now c.whole-found.result c.whole-found.ensures c.in-WellFormed.is c.type_table.ensures c.tests_pass.ensures
-
-pub returns-in_default : goal.returns-in_default
-returns-in_default c = not_read c.args.file.now c.whole-found.result c.whole-found.ensures (ap (tag_of answers.the_type) c.in_default.is)
+returns c = read_typed_lem c.args.file.now _ c.whole.ensures c.in_ok-at.was c.type_table.ensures c.judge.ensures

@@ -1,19 +1,16 @@
 -- Cases of commands: stores, the starting memory, order and units (RULES 6).
-use Rattle.std.specs.Prelude.{refl, List, [], ◌∷◌}
+use Rattle.std.specs.Prelude.{refl, List, [], ◌∷◌, Ok, Err}
+use Rattle.rules.specs.declared.Fault.TheVariants as faults
 use Rattle.rules.specs.declared.Value.TheVariants.{Number, Pair}
 use Rattle.rules.specs.Basic.{fine, refused}
 use Rattle.rules.specs.Reading.{row_good, rows, section, cells, sections, fifth, reading, rising}
 use Rattle.rules.specs.Shape.{type_of, shape}
 use Rattle.rules.specs.Kinds.{same, converts, kinds}
-use Rattle.rules.specs.Ruled.{check1, check4}
+use Rattle.rules.specs.declared.Check.TheVariants.{Null, Bounds, ByZero}
 use Rattle.rules.specs.Steps.{entered, looked, stored}
 use Rattle.rules.specs.Run.{and_then, ruled, enter, afterwards}
 use Rattle.rules.specs.Calls.{formed, judged, inferable, runnable, running}
-use Rattle.rules.specs.declared.ReadAnswer.TheVariants as reads
-use Rattle.rules.specs.declared.CheckAnswer.TheVariants as checks
-use Rattle.rules.specs.declared.InferAnswer.TheVariants as infers
 use Rattle.rules.specs.declared.Outcome.TheVariants.{Done, Fuel, Check}
-use Rattle.rules.specs.declared.RunAnswer.TheVariants as runs
 use Rattle.rules.specs.Cases.Files.{literal, home, cast, null, read, command, skip, store, if_row, one_type, two_types, case1, counting, self_store, nested, nested_types, pointed, followed, narrowed, branches, two_stops}
 use Rattle.rules.specs.Cases.Rows.{three, zeros, nil, ends, starves, fails, inferred, ran_on, ran, told, stuck_in, failing, read_said, check_said, infer_said, run_said, Row}
 
@@ -71,9 +68,9 @@ flow =
     ∷ ran_on 1 (counting 4) (0 ∷ []) (starves 27 1) zeros refl
     ∷ ran_on 11 (counting 4) (0 ∷ []) (starves 51 11) (three 1 0 0) refl
     ∷ ran_on 12 (counting 4) (0 ∷ []) (starves 27 12) (three 1 0 0) refl
-    ∷ failing two_stops (1 ∷ 0 ∷ []) 4 3 check1 23 refl
-    ∷ failing two_stops (1 ∷ 0 ∷ []) 6 4 check1 23 refl
-    ∷ failing two_stops (1 ∷ 0 ∷ []) 7 4 check4 33 refl
+    ∷ failing two_stops (1 ∷ 0 ∷ []) 4 3 Null 23 refl
+    ∷ failing two_stops (1 ∷ 0 ∷ []) 6 4 Null 23 refl
+    ∷ failing two_stops (1 ∷ 0 ∷ []) 7 4 ByZero 33 refl
     ∷ ran (one_type (null 1 ∷ read 0 ∷ literal 7 ∷ []) (store 0 1 ∷ [])) (0 ∷ []) (fails 1 29 2) zeros refl
     ∷ []
 
@@ -98,14 +95,14 @@ in_order =
 -- What the answers of the code say (RULES 2.1, 6.4).
 abbrev pub answers : List Row
 answers =
-    read_said (reads.WellFormed (record { types = 0; homes = 4; exprs = 10; commands = 22; values = 31 })) (fine (record { types = 0; homes = 4; exprs = 10; commands = 22; values = 31 })) refl
-    ∷ read_said (reads.Refused (record { number = 6; place = 22 })) (refused 6 22) refl
-    ∷ check_said checks.Accepted (fine tt) refl
-    ∷ check_said (checks.Refused (record { number = 8; place = 19 })) (refused 8 19) refl
-    ∷ infer_said infers.Marked (fine tt) refl
-    ∷ infer_said (infers.Refused (record { number = 9; place = 2 })) (refused 9 2) refl
-    ∷ run_said (runs.Ran (record { outcome = Done; units = 3 })) (ends 3) refl
-    ∷ run_said (runs.Ran (record { outcome = Fuel 17; units = 2 })) (starves 17 2) refl
-    ∷ run_said (runs.Ran (record { outcome = Check 2 34; units = 4 })) (fails 2 34 4) refl
-    ∷ run_said (runs.Refused (record { number = 7; place = 1 })) (refused 7 1) refl
+    read_said (Ok (record { types = 0; homes = 4; exprs = 10; commands = 22; values = 31 })) (fine (record { types = 0; homes = 4; exprs = 10; commands = 22; values = 31 })) refl
+    ∷ read_said (Err (record { fault = faults.Shape; place = 22 })) (refused 6 22) refl
+    ∷ check_said (Ok tt) (fine tt) refl
+    ∷ check_said (Err (record { fault = faults.Kinds; place = 19 })) (refused 8 19) refl
+    ∷ infer_said (Ok tt) (fine tt) refl
+    ∷ infer_said (Err (record { fault = faults.Lent; place = 2 })) (refused 9 2) refl
+    ∷ run_said (Ok (record { outcome = Done; units = 3 })) (ends 3) refl
+    ∷ run_said (Ok (record { outcome = Fuel 17; units = 2 })) (starves 17 2) refl
+    ∷ run_said (Ok (record { outcome = Check Bounds 34; units = 4 })) (fails 2 34 4) refl
+    ∷ run_said (Err (record { fault = faults.Marking; place = 1 })) (refused 7 1) refl
     ∷ []

@@ -4,7 +4,7 @@ use Rattle.rules.specs.declared.Value.TheVariants.{Number, Pair}
 use Rattle.rules.specs.Reading.{row_good, rows, section, cells, sections, fifth, reading, rising}
 use Rattle.rules.specs.Shape.{type_of, shape}
 use Rattle.rules.specs.Kinds.{same, converts, kinds}
-use Rattle.rules.specs.Ruled.{check1, check2, check3, check4}
+use Rattle.rules.specs.declared.Check.TheVariants.{Null, Bounds, NoHome, ByZero}
 use Rattle.rules.specs.Run.{and_then, ruled, enter, afterwards}
 use Rattle.rules.specs.Calls.{formed, judged, runnable, running}
 use Rattle.rules.specs.Cases.Files.{type_row, home_row, literal, home, cast, null, sum, read, skip, store, file, one_type, two_types, case2, unused, operand, calculation, int_cast, stocked, nested, misread}
@@ -40,8 +40,8 @@ operators =
     ∷ valued (calculation 24 4294967295 31) (0 ∷ []) 2 3 (Number 1) refl
     ∷ valued (calculation 24 4294967295 32) (0 ∷ []) 2 3 (Number 0) refl
     ∷ valued (calculation 24 4294967295 33) (0 ∷ []) 2 3 (Number 0) refl
-    ∷ failing (calculation 19 5 0) (0 ∷ []) 2 3 check4 22 refl
-    ∷ failing (calculation 20 5 0) (0 ∷ []) 2 3 check4 22 refl
+    ∷ failing (calculation 19 5 0) (0 ∷ []) 2 3 ByZero 22 refl
+    ∷ failing (calculation 20 5 0) (0 ∷ []) 2 3 ByZero 22 refl
     ∷ []
 
 -- Values: null, home variables, sums, and conversion by kind (RULES 5.3 to 5.5).
@@ -66,9 +66,9 @@ converted =
     ∷ valued (unused (literal 5 ∷ cast 0 1 ∷ cast 1 0 ∷ [])) (1 ∷ []) 2 3 (Number 5) refl
     ∷ valued (two_types (home 1 ∷ cast 0 2 ∷ []) (skip ∷ [])) (0 ∷ 0 ∷ []) 1 2 (Number 1) refl
     ∷ valued (two_types (home 1 ∷ literal 2 ∷ sum 0 1 ∷ cast 2 2 ∷ []) (skip ∷ [])) (1 ∷ 0 ∷ []) 3 4 (Number 3) refl
-    ∷ failing (two_types (home 1 ∷ literal 3 ∷ sum 0 1 ∷ cast 2 2 ∷ []) (skip ∷ [])) (1 ∷ 0 ∷ []) 3 4 check2 29 refl
+    ∷ failing (two_types (home 1 ∷ literal 3 ∷ sum 0 1 ∷ cast 2 2 ∷ []) (skip ∷ [])) (1 ∷ 0 ∷ []) 3 4 Bounds 29 refl
     ∷ valued (two_types (literal 0 ∷ cast 0 1 ∷ cast 1 2 ∷ []) (skip ∷ [])) (1 ∷ 0 ∷ []) 2 3 (Number 0) refl
-    ∷ failing (two_types (literal 1 ∷ cast 0 1 ∷ cast 1 2 ∷ []) (skip ∷ [])) (1 ∷ 0 ∷ []) 2 3 check2 24 refl
+    ∷ failing (two_types (literal 1 ∷ cast 0 1 ∷ cast 1 2 ∷ []) (skip ∷ [])) (1 ∷ 0 ∷ []) 2 3 Bounds 24 refl
     ∷ valued int_cast (1 ∷ []) 1 2 (Pair 0 5) refl
     ∷ valued (two_types (home 1 ∷ cast 0 2 ∷ []) (skip ∷ [])) (1 ∷ 1 ∷ []) 1 2 (Pair 1 0) refl
     ∷ valued int_cast (2 ∷ []) 1 2 (Pair 0 5) refl
@@ -82,23 +82,23 @@ accesses =
     valued (stocked (home 2 ∷ read 0 ∷ [])) (0 ∷ []) 1 2 (Number 8) refl
     ∷ valued (stocked (home 2 ∷ read 0 ∷ [])) (1 ∷ []) 1 2 (Number 8) refl
     ∷ valued (stocked (home 1 ∷ literal 2 ∷ sum 0 1 ∷ read 2 ∷ [])) (1 ∷ []) 3 4 (Number 7) refl
-    ∷ failing (stocked (home 1 ∷ literal 3 ∷ sum 0 1 ∷ read 2 ∷ [])) (1 ∷ []) 3 4 check2 31 refl
+    ∷ failing (stocked (home 1 ∷ literal 3 ∷ sum 0 1 ∷ read 2 ∷ [])) (1 ∷ []) 3 4 Bounds 31 refl
     ∷ valued (stocked (home 2 ∷ literal 1 ∷ sum 0 1 ∷ read 2 ∷ [])) (1 ∷ []) 3 4 (Number 9) refl
-    ∷ failing (stocked (home 2 ∷ literal 2 ∷ sum 0 1 ∷ read 2 ∷ [])) (1 ∷ []) 3 4 check2 31 refl
-    ∷ failing (stocked (home 2 ∷ literal 4294967295 ∷ sum 0 1 ∷ read 2 ∷ [])) (1 ∷ []) 3 4 check2 31 refl
+    ∷ failing (stocked (home 2 ∷ literal 2 ∷ sum 0 1 ∷ read 2 ∷ [])) (1 ∷ []) 3 4 Bounds 31 refl
+    ∷ failing (stocked (home 2 ∷ literal 4294967295 ∷ sum 0 1 ∷ read 2 ∷ [])) (1 ∷ []) 3 4 Bounds 31 refl
     ∷ valued (stocked (home 2 ∷ read 0 ∷ [])) (2 ∷ []) 1 2 (Number 8) refl
     ∷ valued (stocked (home 1 ∷ literal 2 ∷ sum 0 1 ∷ read 2 ∷ [])) (2 ∷ []) 3 4 (Number 7) refl
-    ∷ failing (stocked (home 1 ∷ literal 3 ∷ sum 0 1 ∷ read 2 ∷ [])) (2 ∷ []) 3 4 check2 31 refl
+    ∷ failing (stocked (home 1 ∷ literal 3 ∷ sum 0 1 ∷ read 2 ∷ [])) (2 ∷ []) 3 4 Bounds 31 refl
     ∷ valued (stocked (home 2 ∷ literal 1 ∷ sum 0 1 ∷ read 2 ∷ [])) (2 ∷ []) 3 4 (Number 9) refl
-    ∷ failing (stocked (home 2 ∷ literal 2 ∷ sum 0 1 ∷ read 2 ∷ [])) (2 ∷ []) 3 4 check2 31 refl
-    ∷ failing (stocked (home 2 ∷ literal 4294967295 ∷ sum 0 1 ∷ read 2 ∷ [])) (2 ∷ []) 3 4 check2 31 refl
-    ∷ failing (stocked (null 1 ∷ read 0 ∷ [])) (0 ∷ []) 1 2 check1 21 refl
-    ∷ failing (stocked (null 1 ∷ read 0 ∷ [])) (1 ∷ []) 1 2 check1 21 refl
-    ∷ failing (stocked (null 1 ∷ read 0 ∷ [])) (2 ∷ []) 1 2 check3 21 refl
-    ∷ failing (stocked (literal 0 ∷ cast 0 1 ∷ read 1 ∷ [])) (1 ∷ []) 2 3 check1 26 refl
-    ∷ failing (stocked (literal 1 ∷ cast 0 1 ∷ read 1 ∷ [])) (1 ∷ []) 2 3 check2 26 refl
-    ∷ failing (stocked (literal 0 ∷ cast 0 1 ∷ read 1 ∷ [])) (2 ∷ []) 2 3 check3 26 refl
-    ∷ failing (stocked (literal 1 ∷ cast 0 1 ∷ read 1 ∷ [])) (2 ∷ []) 2 3 check3 26 refl
+    ∷ failing (stocked (home 2 ∷ literal 2 ∷ sum 0 1 ∷ read 2 ∷ [])) (2 ∷ []) 3 4 Bounds 31 refl
+    ∷ failing (stocked (home 2 ∷ literal 4294967295 ∷ sum 0 1 ∷ read 2 ∷ [])) (2 ∷ []) 3 4 Bounds 31 refl
+    ∷ failing (stocked (null 1 ∷ read 0 ∷ [])) (0 ∷ []) 1 2 Null 21 refl
+    ∷ failing (stocked (null 1 ∷ read 0 ∷ [])) (1 ∷ []) 1 2 Null 21 refl
+    ∷ failing (stocked (null 1 ∷ read 0 ∷ [])) (2 ∷ []) 1 2 NoHome 21 refl
+    ∷ failing (stocked (literal 0 ∷ cast 0 1 ∷ read 1 ∷ [])) (1 ∷ []) 2 3 Null 26 refl
+    ∷ failing (stocked (literal 1 ∷ cast 0 1 ∷ read 1 ∷ [])) (1 ∷ []) 2 3 Bounds 26 refl
+    ∷ failing (stocked (literal 0 ∷ cast 0 1 ∷ read 1 ∷ [])) (2 ∷ []) 2 3 NoHome 26 refl
+    ∷ failing (stocked (literal 1 ∷ cast 0 1 ∷ read 1 ∷ [])) (2 ∷ []) 2 3 NoHome 26 refl
     ∷ ran (one_type (null 1 ∷ literal 7 ∷ []) (store 0 1 ∷ [])) (0 ∷ []) (fails 1 24 2) zeros refl
     ∷ ran (one_type (null 1 ∷ literal 7 ∷ []) (store 0 1 ∷ [])) (1 ∷ []) (fails 1 24 2) zeros refl
     ∷ ran (one_type (null 1 ∷ literal 7 ∷ []) (store 0 1 ∷ [])) (2 ∷ []) (fails 3 24 2) nils refl

@@ -1,18 +1,16 @@
 -- A case, what it says, and the rows of the table of cases.
-use Rattle.std.specs.Prelude.{◌≡◌, Bool, true, ℕ, List, [], ◌∷◌, ◌++◌, map, length, drop}
+use Rattle.std.specs.Prelude.{◌≡◌, Bool, true, ℕ, List, [], ◌∷◌, ◌++◌, map, length, drop, Result}
 use Rattle.rules.specs.declared.Starts.{Starts}
 use Rattle.rules.specs.declared.Value.{Value}
-use Rattle.rules.specs.declared.ReadAnswer.{ReadAnswer}
-use Rattle.rules.specs.declared.CheckAnswer.{CheckAnswer}
-use Rattle.rules.specs.declared.InferAnswer.{InferAnswer}
-use Rattle.rules.specs.declared.RunAnswer.{RunAnswer}
+use Rattle.rules.specs.declared.Refusal.{Refusal}
+use Rattle.rules.specs.declared.Report.{Report}
 use Rattle.rules.specs.Basic.{Verdict, fine, refused}
 use Rattle.rules.specs.Table.{routine}
-use Rattle.rules.specs.Ruled.{Check}
+use Rattle.rules.specs.declared.Check.{Check}
 use Rattle.rules.specs.Steps.{Step}
 use Rattle.rules.specs.Start.{start}
 use Rattle.rules.specs.Run.{Answer, got, stopped, failed, no_rule, eval, run}
-use Rattle.rules.specs.Calls.{formed, judged, checking, inferable, Inferred, left, running, Ending, Ended, Left, finished, out_of_fuel, failed_check, stuck_at, ending_of, read_says, check_says, infer_says, run_says}
+use Rattle.rules.specs.Calls.{formed, judged, checking, inferable, Inferred, left, running, Ending, Ended, Left, finished, out_of_fuel, failed_check, stuck_at, ending_of, says, run_says}
 use Rattle.rules.specs.Cases.Least.{least_in, leaves_least}
 
 -- ---- a case, and what it says
@@ -30,10 +28,10 @@ pub data Case : Type 0 where
   takes : (file marking : List ℕ) → List Step → Case
   goes : (file marking : List ℕ) → Ending → Case
   evaluates : (file marking : List ℕ) (row fuel : ℕ) → Answer → Case
-  read_saying : ReadAnswer → Verdict Starts → Case
-  check_saying : CheckAnswer → Verdict (Unit {0}) → Case
-  infer_saying : InferAnswer → Verdict (Unit {0}) → Case
-  run_saying : RunAnswer → Verdict Ended → Case
+  read_saying : Result Starts Refusal → Verdict Starts → Case
+  check_saying : Result (Unit {0}) Refusal → Verdict (Unit {0}) → Case
+  infer_saying : Result (Unit {0}) Refusal → Verdict (Unit {0}) → Case
+  run_saying : Result Report Refusal → Verdict Ended → Case
 
 abbrev pub steps : Verdict Starts → List ℕ → List ℕ → List Step
 steps (fine at) s m = (run (routine s at) m [] plenty).steps
@@ -55,9 +53,9 @@ Holds (runs s m f l x) = running s m f l ≡ x
 Holds (takes s m l) = steps (judged s m) s m ≡ l
 Holds (goes s m x) = ending (formed s) s m ≡ x
 Holds (evaluates s m e f x) = evaluated (formed s) s m e f ≡ x
-Holds (read_saying x v) = read_says x ≡ v
-Holds (check_saying x v) = check_says x ≡ v
-Holds (infer_saying x v) = infer_says x ≡ v
+Holds (read_saying x v) = says x ≡ v
+Holds (check_saying x v) = says x ≡ v
+Holds (infer_saying x v) = says x ≡ v
 Holds (run_saying x v) = run_says x ≡ v
 
 -- A case with its proof. The proof is `refl`: both sides are computed, and a row that does not hold is refused where it stands.
@@ -151,14 +149,14 @@ abbrev pub stuck_on : (s m : List ℕ) (e units place : ℕ) → evaluated (form
 stuck_on s m e units place p = record { case = evaluates s m e units _; holds = p }
 
 -- What the code's answers say.
-abbrev pub read_said : (x : ReadAnswer) (v : Verdict Starts) → read_says x ≡ v → Row
+abbrev pub read_said : (x : Result Starts Refusal) (v : Verdict Starts) → says x ≡ v → Row
 read_said x v p = record { case = read_saying x v; holds = p }
 
-abbrev pub check_said : (x : CheckAnswer) (v : Verdict (Unit {0})) → check_says x ≡ v → Row
+abbrev pub check_said : (x : Result (Unit {0}) Refusal) (v : Verdict (Unit {0})) → says x ≡ v → Row
 check_said x v p = record { case = check_saying x v; holds = p }
 
-abbrev pub infer_said : (x : InferAnswer) (v : Verdict (Unit {0})) → infer_says x ≡ v → Row
+abbrev pub infer_said : (x : Result (Unit {0}) Refusal) (v : Verdict (Unit {0})) → says x ≡ v → Row
 infer_said x v p = record { case = infer_saying x v; holds = p }
 
-abbrev pub run_said : (x : RunAnswer) (v : Verdict Ended) → run_says x ≡ v → Row
+abbrev pub run_said : (x : Result Report Refusal) (v : Verdict Ended) → run_says x ≡ v → Row
 run_said x v p = record { case = run_saying x v; holds = p }

@@ -1,10 +1,8 @@
--- `give` meets its contract: at the loop's head the values of earlier rows are written over what stood there. Assumes nothing.
-use Prim.Native.Nat.{◌-◌}
-use Rattle.starting.proofs.Given.{GivenSoFar}
+-- The values of earlier rows are written over what stood there.
+use Rattle.std.proofs.Common.{◌≡◌}
+use Rattle.rules.specs.Start.{given}
+use Rattle.view.specs.Files.{routine_of}
 use Rattle.starting.proofs.give.Given as goal
 
 abbrev pub invariant-loop-i : goal.invariant-loop-i
-invariant-loop-i l = GivenSoFar l.file l.at l.marking l.n l.i l.initial.memory l.memory
-
-abbrev pub decreases-loop-i : goal.decreases-loop-i
-decreases-loop-i l = l.n - l.i
+invariant-loop-i l = l.memory ≡ given (routine_of l.file.formed.view) l.file.marking.now l.i l.initial.memory

@@ -1,17 +1,17 @@
--- `shape::value_shaped` meets its contract: the row's home and that home's type have rows, and the target there is the cell's type. Assumes nothing.
-use Rattle.view.specs.Means.{value_home, home_type_asked}
+-- The row's home and that home's type have rows, and the target there is the cell's type.
+use Rattle.view.specs.Means.{value_home, home_type}
 use Rattle.reader.proofs.Shapes.{value_shaped_is}
-use Rattle.view.specs.Rows.{value_asked}
 use Rattle.reader.proofs.shape.value_shaped.Goals as goal
 
-pub start_row-row-requires : goal.start_row-row-requires
-start_row-row-requires c = value_asked c.requires.0 _ c.requires.1
+pub home_row-home-requires-clause-first : goal.home_row-home-requires-clause-first
+home_row-home-requires-clause-first c = (value_home c.args.view.now.read c.requires c.start_row.ensures).0
 
-pub home_row-home-requires : goal.home_row-home-requires
-home_row-home-requires c = value_home c.requires.0 c.requires.1 c.start_row-row.ensures
+pub home_row-home-requires-clause-row : goal.home_row-home-requires-clause-row
+home_row-home-requires-clause-row c = (value_home c.args.view.now.read c.requires c.start_row.ensures).1
 
 pub type_row-requires : goal.type_row-requires
-type_row-requires c = home_type_asked (value_home c.requires.0 c.requires.1 c.start_row-row.ensures) c.home_row-home.ensures
+type_row-requires c =
+    let fits = value_home c.args.view.now.read c.requires c.start_row.ensures in home_type c.args.view.now.read fits.0 fits.1 c.home_row-home.ensures
 
 pub returns : goal.returns
-returns c = value_shaped_is c.requires.0 c.requires.1 c.start_row-row.ensures c.home_row-home.ensures c.type_row.ensures
+returns c = value_shaped_is c.args.view.now.read c.requires c.start_row.ensures c.home_row-home.ensures c.type_row.ensures

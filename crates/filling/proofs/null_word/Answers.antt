@@ -1,8 +1,0 @@
--- The operation is that of the type's kind.
-use mathlib.Core.Path.{refl, ap, ◌∙◌}
-use Rattle.words.specs.Words.{null_op}
-use Rattle.filling.proofs.Words.{parts_are}
-use Rattle.filling.proofs.null_word.Goals as goal
-
-pub returns : goal.returns
-returns c = parts_are (c.null_op.ensures.0 ∙ ap null_op c.kind_of.ensures) refl c.word.ensures

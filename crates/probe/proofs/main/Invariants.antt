@@ -1,5 +1,0 @@
--- Requests are counted down.
-use Rattle.probe.proofs.main.Given as goal
-
-abbrev pub decreases-loop-left : goal.decreases-loop-left
-decreases-loop-left l = l.left
