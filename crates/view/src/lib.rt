@@ -221,6 +221,33 @@ impl StartRow {
 
 // ---- the view
 
+// A file's bytes beside places for its section starts. Nothing is said of them yet: of a file that was read they are its view.
+#[derive(Clone, Copy)]
+pub struct Sections<'a> {
+    pub bytes: &'a [u8],
+    pub at: Starts,
+}
+
+// The two as they are given.
+pub fn view_of<'a>(bytes: &'a [u8], at: Starts) -> Sections<'a>
+    ensures { (result.bytes ≡ bytes.entry) × (result.at ≡ at) }
+{
+    Sections { bytes, at }
+}
+
+impl<'a> Sections<'a> {
+    // The view of a file that was read.
+    pub fn known(self) -> View<'a>
+        requires { WellRead self.bytes.now self.at }
+        ensures { (result.bytes ≡ self.entry.bytes) × (result.at ≡ self.entry.at) }
+    {
+        View {
+            bytes: self.bytes,
+            at: self.at,
+        }
+    }
+}
+
 // The bytes of a file that was read, and its five section starts.
 #[derive(Clone, Copy)]
 pub struct View<'a> {
