@@ -1,5 +1,6 @@
 // A well-formed file under a marking, and refusals 7 and 8.
-ghost use Rattle.std.specs.Prelude.{◌≡◌, ◌≤◌, ◌<◌, length};
+ghost use Rattle.std.specs.Prelude.{◌≡◌, ◌≤◌, ◌<◌, length, get_or};
+ghost use Rattle.rules.specs.declared.Kind.TheVariants.{int};
 ghost use Rattle.rules.specs.Table.{routine};
 ghost use Rattle.rules.specs.Kinds.{kinds};
 ghost use Rattle.rules.specs.Basic.{fine};
@@ -123,16 +124,15 @@ impl<'a> MarkedFile<'a> {
     }
 }
 
-// The kinds of a marking's types, each at its type's number; int has number 0.
-fn kinds_of(marking: &[u8]) -> [Kind; 256]
-    requires { length marking.now ≤ 255 }
-    ensures { KindsOf marking.now (length marking.now) result }
+// The kinds of a marking's types, each at its type's number; int has number 0. The table is lent: as a result it would be copied, by a function of C.
+fn fill_kinds(marking: &[u8], kinds: &mut [Kind; 256])
+    requires few { length marking.now ≤ 255 }
+    requires none { get_or kinds.old 0 int ≡ int }
+    ensures { KindsOf marking.now (length marking.now) kinds.new }
 {
-    let mut kinds = [Kind::int; 256];
     for (i, &byte) in marking.iter().enumerate() {
         kinds[i + 1] = Kind::from(byte);
     }
-    kinds
 }
 
 // Refusals 7 and 8 of a well-formed file.
@@ -149,7 +149,8 @@ pub fn judge(formed: &WellFormed, marking: &[u8]) -> Result<Starts, Refusal>
     }
     let mut targets = [0u8; 256];
     targets::fill(&formed.view, &mut targets);
-    let kinds = kinds_of(marking);
+    let mut kinds = [Kind::int; 256];
+    fill_kinds(marking, &mut kinds);
     let marked = MarkedFile {
         formed: *formed,
         marking,

@@ -35,6 +35,19 @@ impl<W: Write> Write for Lines<W> {
         self.waiting.write(bytes)
     }
 
+    // A write that fails ends it, and is not tried again, interrupted or not. Each turn puts a byte at the least.
+    fn write_all(&mut self, bytes: &[u8]) -> io::Result<()> {
+        let mut rest = bytes;
+        for _ in bytes {
+            if rest.is_empty() {
+                return Ok(());
+            }
+            let n = self.write(rest)?;
+            rest = &rest[n..];
+        }
+        Ok(())
+    }
+
     fn flush(&mut self) -> io::Result<()> {
         self.to.write_all(&self.waiting)?;
         self.waiting.clear();
