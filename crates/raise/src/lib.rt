@@ -101,11 +101,14 @@ impl<'a> Raising<'a> {
         }
     }
 
-    // One conversion, as far as its own two kinds go. SEQ goes back to the source only.
+    // One conversion, as far as its own two kinds go. SEQ goes back to the source only. Most have one kind already, and are passed by first.
     fn outer(&mut self, c: Conversion)
         requires { Between (length self.old.kinds.now) c }
         ensures { Sees (λ w. Outer w c) self.old self.new }
     {
+        if self.kinds[usize::from(c.from) - 1] == self.kinds[usize::from(c.to) - 1] {
+            return;
+        }
         self.upward(c.to, c.from);
         self.flow(c.from, c.to, DYNAMIC);
     }
