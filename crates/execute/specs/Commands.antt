@@ -10,6 +10,7 @@ use Rattle.rules.specs.Valid.{ValidState}
 use Rattle.laws.specs.Forget.{value, rule}
 use Rattle.words.specs.Ops.{op_store}
 use Rattle.words.specs.Words.{op_in, first_for, second_for, RowWords, HomeWords, state}
+use Rattle.evaluate.specs.declared.Got.{Got}
 use Rattle.evaluate.specs.declared.Stop.{Stop}
 use Rattle.evaluate.specs.Rows.{stop_told, Inside}
 
@@ -18,6 +19,11 @@ use Rattle.evaluate.specs.Rows.{stop_told, Inside}
 abbrev pub ran_told : Routine → List Home → Result ℕ Stop → List ℕ → Runs
 ran_told r hs (Ok f) memory = done (record { homes = hs; memory = memory }) f
 ran_told r hs (Err s) memory = halted (record { homes = hs; memory = memory }) (stop_told r s)
+
+-- A command whose expression has stopped stops as that has.
+abbrev pub stopped_of : Result Got Stop → Result ℕ Stop
+stopped_of (Ok x) = Ok x.left
+stopped_of (Err s) = Err s
 
 -- ---- a command row of a table's routine, in a memory that is valid for the table's homes
 

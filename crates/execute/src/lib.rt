@@ -3,15 +3,22 @@
 
 ghost use Rattle.std.specs.Prelude.{◌≡◌};
 ghost use Rattle.words.specs.Ops.{op_then, op_store, op_if, op_while};
-ghost use Rattle.execute.specs.Commands.{Commanded, Entered, Storing, ran_told, meant_run, entered_run, storing_run};
+ghost use Rattle.execute.specs.Commands.{Commanded, Entered, Storing, ran_told, meant_run, entered_run, storing_run, stopped_of};
 
-use evaluate::{Cause, Stop, eval};
+use evaluate::{Cause, Got, Stop, eval};
 use words::{A, B, C, COMMANDS, WORDS, d_of, field, op_of, ops};
 
 // Each contract asks for the row's routine, marking and homes, as a record: they are lists and functions, which no ghost field holds.
 // An answer is taken apart by `let .. else`, the form that was asked for by name (docs/DECISIONS.md, Forms), and not by `?`.
 // Rows are told as the table numbers them, commands from 1,024 on: an enum of the two sections would be put in and taken out at each stop.
 // The table, the memory, the row, its word and the fuel go apart, in registers: a struct of the first two was tried, and deep commands ran a seventh slower.
+
+// What a command answers where its expression has stopped.
+fn stopped(x: Result<Got, Stop>) -> Result<u32, Stop>
+    ensures { result ≡ stopped_of x }
+{
+    x.map(|x| x.left)
+}
 
 // ---- stores
 
@@ -29,7 +36,7 @@ fn put(
 {
     let value = eval(t, memory, field::<B>(w), left);
     let Ok(y) = value else {
-        return value.map(|y| y.left);
+        return stopped(value);
     };
     match values::kept(t, d_of(w), y.value) {
         Ok(entry) => {
@@ -49,7 +56,7 @@ fn store(t: &[u64; WORDS], memory: &mut [u64], row: u32, w: u64, left: u32) -> R
 {
     let pointer = eval(t, memory, field::<A>(w), left);
     let Ok(x) = pointer else {
-        return pointer.map(|x| x.left);
+        return stopped(pointer);
     };
     match values::reach(t, field::<C>(w), x.value) {
         Ok(a) => put(t, memory, row, w, a, x.left),
@@ -78,7 +85,7 @@ fn choose(t: &[u64; WORDS], memory: &mut [u64], row: u32, w: u64, left: u32) -> 
 {
     let test = eval(t, memory, field::<A>(w), left);
     let Ok(x) = test else {
-        return test.map(|x| x.left);
+        return stopped(test);
     };
     if values::number(x.value) == 0 {
         exec(t, memory, field::<C>(w), x.left)
@@ -97,7 +104,7 @@ fn repeat(t: &[u64; WORDS], memory: &mut [u64], row: u32, w: u64, fuel: u32) -> 
     loop {
         let test = eval(t, memory, field::<A>(w), left);
         let Ok(turn) = test else {
-            return test.map(|turn| turn.left);
+            return stopped(test);
         };
         if values::number(turn.value) == 0 {
             return Ok(turn.left);

@@ -52,7 +52,11 @@ pub fn infer(file: &[u8], marking: &mut [u8]) -> Result<(), Refusal>
     ensures { Inferred file.now marking.old (record { answer = says result; lent = marking.new }) }
 {
     let mut types = [0u16; 1024];
-    let at = reader::read_typed(file, &mut types)?;
+    // A `match` and no `?`: what a refused file is answered is a place of its own, where `refused_marked` goes wrong and nothing else moves.
+    let at = match reader::read_typed(file, &mut types) {
+        Ok(at) => at,
+        Err(refusal) => return Err(refusal),
+    };
     let formed = WellFormed::new(file, at, &types);
     let needed = usize::from(formed.view.counts().types);
     if marking.len() < needed {

@@ -10,7 +10,7 @@ pub choose-eval-test-requires : goal.choose-eval-test-requires
 choose-eval-test-requires t c = rows.test_asked c.requires.asked c.requires 0 _ c.field.ensures
 
 pub choose-returns-in_default : goal.choose-returns-in_default
-choose-returns-in_default t c = λ g. rows.test_stops g c.requires _ _ c.field.ensures c.eval-test.result c.eval-test.ensures _ _ c.in_default.is (rw c.in_default.is at c.map.ensures.cases)
+choose-returns-in_default t c = λ g. rows.test_stops g c.requires _ _ c.field.ensures c.eval-test.result c.eval-test.ensures _ _ c.in_default.is (rw c.in_default.is at c.stopped.ensures)
 
 pub choose-exec-requires : goal.choose-exec-requires
 choose-exec-requires t c = let l = rows.else_before c.requires.asked c.requires _ _ c.field.ensures _ c.eval-test.ensures _ c.in-Ok.is _ c.number.ensures _ c.field-then-number-eq0.ensures in (omega (arith, c.decreases, l), rows.command c.requires.asked _ c.requires.asked.valid _ l)
@@ -49,7 +49,7 @@ pub repeat-eval-test-requires : goal.repeat-eval-test-requires
 repeat-eval-test-requires t c = test_asked c.requires.asked c.requires _ _ _ (c.loop-turn.invariant.1 c.requires.asked) _ c.field.ensures
 
 pub repeat-returns-in_default : goal.repeat-returns-in_default
-repeat-returns-in_default t c = λ g. loop_stops g c.requires _ _ _ (c.loop-turn.invariant.1 g) _ c.field.ensures c.eval-test.result c.eval-test.ensures _ _ c.in_default.is (rw c.in_default.is at c.map.ensures.cases)
+repeat-returns-in_default t c = λ g. loop_stops g c.requires _ _ _ (c.loop-turn.invariant.1 g) _ c.field.ensures c.eval-test.result c.eval-test.ensures _ _ c.in_default.is (rw c.in_default.is at c.stopped.ensures)
 
 pub repeat-returns-then-number-eq0 : goal.repeat-returns-then-number-eq0
 repeat-returns-then-number-eq0 t c = λ g. loop_ends g c.requires _ _ _ (c.loop-turn.invariant.1 g) _ c.field.ensures _ c.eval-test.ensures _ c.in-Ok.is _ c.number.ensures c.if-number-eq0.true

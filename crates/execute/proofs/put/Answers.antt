@@ -6,7 +6,7 @@ pub eval-value-requires : goal.eval-value-requires
 eval-value-requires c = value_asked c.requires.entered.asked c.requires.entered 0 _ c.field.ensures
 
 pub returns-in_default : goal.returns-in_default
-returns-in_default c = λ g. value_stops g c.requires.entered _ _ c.field.ensures _ c.eval-value.result c.eval-value.ensures _ _ c.in_default.is (rw c.in_default.is at c.map.ensures.cases)
+returns-in_default c = λ g. value_stops g c.requires.entered _ _ c.field.ensures _ c.eval-value.result c.eval-value.ensures _ _ c.in_default.is (rw c.in_default.is at c.stopped.ensures)
 
 pub kept-requires : goal.kept-requires
 kept-requires c = value_named c.requires.entered.asked c.requires.entered _ _ c.field.ensures 0 _ c.eval-value.ensures _ c.in-Ok.is

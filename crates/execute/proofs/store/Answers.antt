@@ -6,7 +6,7 @@ pub eval-pointer-requires : goal.eval-pointer-requires
 eval-pointer-requires c = pointer_asked c.requires.asked c.requires 0 _ c.field.ensures
 
 pub returns-in_default : goal.returns-in_default
-returns-in_default c = λ g. pointer_stops g c.requires _ _ c.field.ensures c.eval-pointer.result c.eval-pointer.ensures _ _ c.in_default.is (rw c.in_default.is at c.map.ensures.cases)
+returns-in_default c = λ g. pointer_stops g c.requires _ _ c.field.ensures c.eval-pointer.result c.eval-pointer.ensures _ _ c.in_default.is (rw c.in_default.is at c.stopped.ensures)
 
 pub reach-requires : goal.reach-requires
 reach-requires c = pointer_named c.requires.asked c.requires _ _ c.field.ensures _ c.eval-pointer.ensures _ c.in-Ok.is
