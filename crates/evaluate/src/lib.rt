@@ -70,6 +70,14 @@ fn one(t: &[u64; WORDS], memory: &[u64], op: u64, v: Value) -> Result<Value, Che
     })
 }
 
+// What a row of one operand answers, whose value is x.
+fn single(t: &[u64; WORDS], memory: &[u64], op: u64, row: u32, x: Got) -> Result<Got, Stop>
+    requires { Ready t.now memory.now op x.value }
+    ensures { result ≡ says row x.left (checked (one_in t.now memory.now op x.value)) }
+{
+    answer(row, x.left, one(t, memory, op, x.value))
+}
+
 // ---- two operands
 
 #[tactic(auto, unfolding(crate::specs::Rows::two_in))]
@@ -100,7 +108,7 @@ fn compound(t: &[u64; WORDS], memory: &[u64], row: u32, w: u64, left: u32) -> Re
         return first;
     };
     if op < ops::SUM {
-        return answer(row, x.left, one(t, memory, op, x.value));
+        return single(t, memory, op, row, x);
     }
     let second = eval(t, memory, high(w), x.left);
     let Ok(y) = second else {

@@ -9,11 +9,11 @@ compound-eval-first-requires t c = let l = first_before c.requires.asked _ c.req
 pub compound-returns-in_default : goal.compound-returns-in_default
 compound-returns-in_default t c = λ g. first_stops g _ c.requires.word _ _ _ c.op_of-op.ensures c.field.ensures c.requires.some _ c.eval-first.ensures _ c.in_default.is
 
-pub compound-one-requires : goal.compound-one-requires
-compound-one-requires t c = one_ready c.requires.asked _ c.requires.word _ _ _ c.op_of-op.ensures c.field.ensures c.requires.some _ c.eval-first.ensures _ c.in-Ok.is c.if-op-lt-SUM.true
+pub compound-single-requires : goal.compound-single-requires
+compound-single-requires t c = one_ready c.requires.asked _ c.requires.word _ _ _ c.op_of-op.ensures c.field.ensures c.requires.some _ c.eval-first.ensures _ c.in-Ok.is c.if-op-lt-SUM.true
 
 pub compound-returns-then-op-lt-SUM : goal.compound-returns-then-op-lt-SUM
-compound-returns-then-op-lt-SUM t c = λ g. a_one g _ c.requires.word _ _ _ c.op_of-op.ensures c.field.ensures c.requires.some _ c.eval-first.ensures _ c.in-Ok.is _ _ c.if-op-lt-SUM.true c.one.ensures c.answer.ensures
+compound-returns-then-op-lt-SUM t c = λ g. a_one g _ c.requires.word _ _ _ c.op_of-op.ensures c.field.ensures c.requires.some _ c.eval-first.ensures _ c.in-Ok.is _ _ c.if-op-lt-SUM.true refl c.single.ensures
 
 pub compound-eval-second-requires : goal.compound-eval-second-requires
 compound-eval-second-requires t c = let l = second_before c.requires.asked _ c.requires.word _ _ 0 c.op_of-op.ensures c.field.ensures _ c.high.ensures c.if-op-lt-SUM.false in (omega (arith, c.decreases, l), earlier c.requires.asked _ l)
@@ -22,7 +22,7 @@ pub compound-returns-in_default-second : goal.compound-returns-in_default-second
 compound-returns-in_default-second t c = λ g. second_stops g _ c.requires.word _ _ _ c.op_of-op.ensures c.field.ensures c.requires.some _ c.eval-first.ensures _ c.in-Ok.is c.if-op-lt-SUM.false _ c.high.ensures _ c.eval-second.ensures _ c.in_default-second.is
 
 pub compound-returns : goal.compound-returns
-compound-returns t c = λ g. a_two g _ c.requires.word _ _ _ c.op_of-op.ensures c.field.ensures c.requires.some _ c.eval-first.ensures _ c.in-Ok.is c.if-op-lt-SUM.false _ c.high.ensures _ c.eval-second.ensures _ _ _ c.in-Ok-second.is c.two.ensures c.answer-2.ensures
+compound-returns t c = λ g. a_two g _ c.requires.word _ _ _ c.op_of-op.ensures c.field.ensures c.requires.some _ c.eval-first.ensures _ c.in-Ok.is c.if-op-lt-SUM.false _ c.high.ensures _ c.eval-second.ensures _ _ _ c.in-Ok-second.is c.two.ensures c.answer.ensures
 
 pub eval-returns-then-fuel-eq0 : goal.eval-returns-then-fuel-eq0
 eval-returns-then-fuel-eq0 t c = λ g. no_fuel_lem g _ c.if-fuel-eq0.true
